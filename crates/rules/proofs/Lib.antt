@@ -1,0 +1,5 @@
+pub mod CallTable
+pub mod Exactly
+pub mod Refused
+pub mod Seatings
+pub mod Unique

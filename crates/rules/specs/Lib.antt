@@ -1,0 +1,11 @@
+pub mod Page
+pub mod Fence
+pub mod Ledger
+pub mod Calls
+pub mod Refusals
+pub mod Effects
+pub mod Step
+pub mod Tables
+pub mod Encoding
+pub mod Seatings
+pub mod Promises

@@ -1,0 +1,5 @@
+pub mod Bools
+pub mod Digits
+pub mod Laws
+pub mod Looks
+pub mod OneOf
