@@ -2,26 +2,19 @@
 use mathlib.Core.Option as Option
 use Rattle.sets.specs.Terms.{ℕ, _+_, _-_, min, Bool, true, cond, _&&_, ltb, eqb, some, row, within, put}
 use Rattle.sets.specs.Look.{lowest}
-use Rattle.rules.specs.Page.{Page, Table, over, page, guestPage, guestWord, isLarge, isGiven}
+use Rattle.rules.specs.Page.{Page, Table, over, page, guestPage, guestWord, isLarge, isGiven, isMeant}
 use Rattle.rules.specs.Fence.{begin, strike, number}
 use Rattle.rules.specs.Ledger.{Ledger, Slot, Hart, inside, outside, bare, opened, withGlobal, withSlot, withHart, withFence, slot, slotOf, placeNumber, othersOf, insidersOf, flushes}
-use Rattle.rules.specs.Calls.{Call, Span, Tvm, Vcpu, HostBase, FreeBase, DirectoryBase, UnitType, HartCount, PageCount, arg, moves, size, firstGuest, index, hostSpans, freeSpans}
-use Rattle.rules.specs.Refusals.{theSlot, meant, taken, unused}
+use Rattle.rules.specs.Calls.{Call, Tvm, Vcpu, HostBase, FreeBase, DirectoryBase, UnitType, HartCount, PageCount, arg, moves, size, firstGuest, index, freeSpans}
+use Rattle.rules.specs.Refusals.{theSlot, taken, unused}
 
 module _ (l : Ledger) (t : Table) (c : Call) where
-  -- record i is the one meant by a guest page of the range
-  unfoldable pub isHit : ℕ → Bool
-  isHit i = ltb i (l .pages) && within (firstGuest c) (size c) (guestPage (t .page i)) && eqb (meant l t c (guestPage (t .page i))) i
-
   -- record i is written: 17 to 19, those meant; else the pages named, of 11 the dest
-  abbrev pub inSpan : ℕ → Span → Bool
-  inSpan i s = within (index (s .base)) (s .pages) i
-
   unfoldable pub writes : ℕ → Bool
   writes i =
-      row (c .number) 1 (some (inSpan i) (hostSpans c))
+      row (c .number) 1 (within (index (arg HostBase c)) (size c) i)
       (row (c .number) 8 (isGiven (t .page i) && eqb (t .page i .slot) (arg Tvm c))
-      (row (c .number) 33 (ltb i (arg PageCount c)) (cond (moves c) (isHit i) (some (inSpan i) (freeSpans c)))))
+      (row (c .number) 33 (ltb i (arg PageCount c)) (cond (moves c) (isMeant t (l .pages) (arg Tvm c) (firstGuest c) (size c) i) (some (λ s. within (index (s .base)) (s .pages) i) (freeSpans c)))))
 
   -- what is written there: "page i of a range goes to guest page i"; "kind 7 to 8, bit 31 kept (18 too)"
   abbrev pub mapping : ℕ → Page

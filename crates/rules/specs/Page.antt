@@ -1,5 +1,6 @@
 -- Document 01, "A page record".
-use Rattle.sets.specs.Terms.{ℕ, _+_, _/_, _%_, Bool, cond, _&&_, _||_, leb, eqb}
+use Rattle.sets.specs.Terms.{ℕ, _+_, _/_, _%_, Bool, cond, _&&_, _||_, ltb, leb, eqb, within}
+use Rattle.sets.specs.Look.{lowest}
 pub use Rattle.rules.specs.declared.Page.{Page}
 
 -- A record that is written. "Fields that a kind does not use are 0 when written." The kinds are the paper's: 0 ordinary, 1 converting,
@@ -38,6 +39,14 @@ pub record Table : Type 0 where
 
 abbrev pub fits : Table → ℕ → Bool
 fits t n = eqb (t .bytes / 8) n && eqb (t .bytes % 8) 0
+
+-- "Where several records claim one guest page of a slot, the lowest page index is meant": of the first n records, and n where none does
+unfoldable pub meant : Table → ℕ → ℕ → ℕ → ℕ
+meant t n slot g = lowest (λ i. claims slot g (t .page i)) n
+
+-- record i is the one meant by one of the `count` guest pages from `first` on
+unfoldable pub isMeant : Table → ℕ → ℕ → ℕ → ℕ → ℕ → Bool
+isMeant t n slot first count i = ltb i n && within first count (guestPage (t .page i)) && eqb (meant t n slot (guestPage (t .page i))) i
 
 -- the table with the records that `which` names written anew
 abbrev pub over : Table → (ℕ → Bool) → (ℕ → Page) → Table

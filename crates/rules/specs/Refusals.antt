@@ -1,7 +1,7 @@
 -- Document 01, "Refusal numbers": one condition for each number, and the lowest that holds.
 use Rattle.sets.specs.Terms.{ℕ, suc, _+_, _*_, _/_, _%_, min, max, Bool, cond, not, _&&_, _||_, List, [], _∷_, _++_, ltb, leb, eqb, oneOf, some, row, within}
 use Rattle.sets.specs.Look.{any, lowest}
-use Rattle.rules.specs.Page.{Page, Table, fits, claims, isFree, isLarge, guestPage}
+use Rattle.rules.specs.Page.{Page, Table, fits, isFree, isLarge, guestPage, meant}
 use Rattle.rules.specs.Fence.{done, someone}
 use Rattle.rules.specs.Ledger.{Ledger, Slot, Region, isOpen, isOutside, isAt, insidersOf}
 use Rattle.rules.specs.Calls.{Call, Span, Tvm, Vcpu, DirectoryBase, FreeBase, UnitCount, UnitType, GuestBase, ByteLength, HartCount, PageCount, entryOf, allows, names, arg, unnamed, opens, moves, unit, size, firstGuest, memory, index, hostSpans, freeSpans}
@@ -29,9 +29,8 @@ module _ (l : Ledger) (t : Table) (c : Call) where
       ∷ (not (opens c) && not (fits t (l .pages)))
       ∷ [])
 
-  -- 4: "hart not below the count (open: not 0); unnamed argument not 0; count 0; type above 1; range above 4,096 pages; byte length 0 or no
-  -- multiple of 4,096; vCPU above 7, or absent on enter; open with harts outside 1 to 8 or pages not the lent table's length, 1 to 4,096".
-  -- "The 4,096-page limit doesn't apply to regions"
+  -- 4: "hart not below the count (open: not 0); unnamed argument not 0; count 0; type above 1; range above 4,096 pages" (not of 9); "byte length
+  -- 0 or no multiple of 4,096; vCPU above 7, or absent on enter; open with harts outside 1 to 8 or pages not the lent table's length, 1 to 4,096"
   unfoldable pub refuses4 : Bool
   refuses4 =
       oneOf
@@ -64,12 +63,12 @@ module _ (l : Ledger) (t : Table) (c : Call) where
       ∷ (names DirectoryBase c && within (arg DirectoryBase c) 16384 (arg FreeBase c))
       ∷ [])
 
-  -- "Where several records claim one guest page of a slot, the lowest page index is meant"; where none does, the number of records
-  unfoldable pub meant : ℕ → ℕ
-  meant g = lowest (λ i. claims (arg Tvm c) g (t .page i)) (l .pages)
+  -- the record that a guest page of the TVM means; it is mapped where there is one
+  abbrev pub theOne : ℕ → ℕ
+  theOne g = meant t (l .pages) (arg Tvm c) g
 
   abbrev pub mapped : ℕ → Bool
-  mapped g = ltb (meant g) (l .pages)
+  mapped g = ltb (theOne g) (l .pages)
 
   -- some record of the span passes; some guest page of the range passes
   abbrev pub someOf : (Page → Bool) → Span → Bool
@@ -85,14 +84,14 @@ module _ (l : Ledger) (t : Table) (c : Call) where
       oneOf
       (some (someOf (λ p. not (eqb (p .kind) 0))) (hostSpans c)
       ∷ some (someOf (λ p. not (isFree p))) (freeSpans c)
-      ∷ (moves c && someGuest (λ g. not (mapped g && eqb (t .page (meant g) .kind) (row (c .number) 17 7 8))))
+      ∷ (moves c && someGuest (λ g. not (mapped g && eqb (t .page (theOne g) .kind) (row (c .number) 17 7 8))))
       ∷ [])
 
   -- 7: "a free page is wanted and it is kind 1, not done; 18, 19: recorded version not done"
   unfoldable pub refuses7 : Bool
   refuses7 =
       some (someOf (λ p. eqb (p .kind) 1 && not (done (l .global) (p .version)))) (freeSpans c)
-      || (eqb (c .number) 18 || eqb (c .number) 19) && someGuest (λ g. not (done (theSlot .fence) (t .page (meant g) .version)))
+      || (eqb (c .number) 18 || eqb (c .number) 19) && someGuest (λ g. not (done (theSlot .fence) (t .page (theOne g) .version)))
 
   -- 8: "3, 16: a hart is still awaited"
   unfoldable pub refuses8 : Bool
@@ -146,7 +145,7 @@ module _ (l : Ledger) (t : Table) (c : Call) where
       isLarge p && not (leb (firstGuest c) block && leb (block + 512) (firstGuest c + size c))
 
   unfoldable pub refuses14 : Bool
-  refuses14 = moves c && someGuest (λ g. cut (t .page (meant g)))
+  refuses14 = moves c && someGuest (λ g. cut (t .page (theOne g)))
 
   -- 15: "leave from a hart that is outside"
   unfoldable pub refuses15 : Bool

@@ -11,7 +11,7 @@ shl-result : tie.Need-shl-result
 shl-result c = search needs
 
 sub-result : tie.Need-sub-result
-sub-result c = rw (one-shl 16 (c .args .n) (search needs)) (pow-pos (c .args .n))
+sub-result c = rw (one-shl 16 (c .args .n) (search needs)) (omega (arith, pow-pos (c .args .n)))
 
 cast-result : tie.Need-cast-result
 cast-result c = rw (one-shl 16 (c .args .n) (search needs)) (record { fits = omega (arith, pow-mono (c .pre)) })
