@@ -1,5 +1,6 @@
 pub mod CallTable
 pub mod Exactly
+pub mod HartSets
 pub mod Refused
 pub mod Seatings
 pub mod Unique

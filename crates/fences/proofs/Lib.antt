@@ -1,0 +1,2 @@
+mod InLocal
+pub mod Trackers

@@ -1,0 +1,117 @@
+// Fence versions and trackers. "The global version and a TVM's version count different fences and never meet in a comparison": two types, so
+// that a page's recorded version meets only its own tracker.
+ghost use mathlib.Core.Path.{_≡_};
+ghost use Prim.Native.Nat.{_<_};
+ghost use Rattle.rules.specs.Fence.{done, number};
+ghost use Rattle.rules.specs.Ledger.{flushes as flushesAt};
+ghost use Rattle.rules.specs.Encoding.{bits};
+ghost use Rattle.fences.specs.Trackers.{globalOf, tvmOf, trackerAt, markOf, globalBegun, globalStruck, tvmBegun, tvmStruck};
+
+pub mod lent;
+
+pub struct GlobalVersion(pub u16);
+
+pub struct TvmVersion(pub u16);
+
+// The present version, and the awaited harts as a set in a byte.
+pub struct GlobalTracker {
+    pub version: GlobalVersion,
+    pub awaited: u8,
+}
+
+pub struct TvmTracker {
+    pub version: TvmVersion,
+    pub awaited: u8,
+}
+
+// The version at a hart's last flush for a slot, or never.
+pub enum Mark {
+    Never,
+    At(TvmVersion),
+}
+
+// The reported value: how many harts are in the set.
+pub fn how_many(awaited: u8) -> u32
+    ensures { λ r. ⌜ r ≡ number (bits awaited) ⌝ }
+{
+    sets::size(awaited)
+}
+
+// The present version is past the recorded one, and nobody is awaited where it is so by one alone. (r + 2 may not fit a u16.)
+fn past(present: u16, awaited: u8, r: u16) -> bool
+    ensures { λ b. ⌜ b ≡ done (trackerAt present awaited) r ⌝ }
+{
+    if present <= r {
+        return false;
+    }
+    if present - r >= 2 {
+        return true;
+    }
+    awaited == 0
+}
+
+pub fn global_done(g: GlobalTracker, r: GlobalVersion) -> bool
+    ensures { λ b. ⌜ b ≡ done (globalOf g) (r .0) ⌝ }
+{
+    past(g.version.0, g.awaited, r.0)
+}
+
+pub fn tvm_done(t: TvmTracker, r: TvmVersion) -> bool
+    ensures { λ b. ⌜ b ≡ done (tvmOf t) (r .0) ⌝ }
+{
+    past(t.version.0, t.awaited, r.0)
+}
+
+pub fn global_begun(g: GlobalTracker, others: u8) -> GlobalTracker
+    requires { ⌜ g .version .0 < 65535 ⌝ }
+    ensures { λ r. ⌜ r ≡ globalBegun g others ⌝ }
+{
+    let v = g.version.0;
+    GlobalTracker {
+        version: GlobalVersion(v + 1),
+        awaited: others,
+    }
+}
+
+pub fn global_struck(g: GlobalTracker, hart: u8) -> GlobalTracker
+    requires { ⌜ hart < 8 ⌝ }
+    ensures { λ r. ⌜ r ≡ globalStruck g hart ⌝ }
+{
+    let v = g.version;
+    GlobalTracker {
+        version: v,
+        awaited: sets::remove(g.awaited, hart),
+    }
+}
+
+pub fn tvm_begun(t: TvmTracker, inside: u8) -> TvmTracker
+    requires { ⌜ t .version .0 < 65535 ⌝ }
+    ensures { λ r. ⌜ r ≡ tvmBegun t inside ⌝ }
+{
+    let v = t.version.0;
+    TvmTracker {
+        version: TvmVersion(v + 1),
+        awaited: inside,
+    }
+}
+
+pub fn tvm_struck(t: TvmTracker, hart: u8) -> TvmTracker
+    requires { ⌜ hart < 8 ⌝ }
+    ensures { λ r. ⌜ r ≡ tvmStruck t hart ⌝ }
+{
+    let v = t.version;
+    TvmTracker {
+        version: v,
+        awaited: sets::remove(t.awaited, hart),
+    }
+}
+
+// Entry flushes exactly when the hart's mark is not the slot's version.
+pub fn flushes(mark: Mark, version: TvmVersion) -> bool
+    ensures { λ r. ⌜ r ≡ flushesAt (markOf mark) (version .0) ⌝ }
+{
+    match mark {
+        Mark::Never => true,
+        Mark::At(at) => at.0 != version.0,
+    }
+}
