@@ -11,7 +11,7 @@ use borrow.Author.Tests.{eqb-true, ne-eqb, leb-true, ltb-true}
 use Rattle.sets.specs.Look.{all}
 use Rattle.sets.proofs.Bools.{by-test, and-left, and-right}
 use Rattle.sets.proofs.Looks.{all-at}
-use Rattle.rules.specs.Calls.{Entry, Phases, none, I, R, IR, code, allows, entry, find, calls, entryOf}
+use Rattle.rules.specs.Calls.{Entry, Phases, noPhase, I, R, IR, code, allows, entry, find, calls, entryOf}
 use Rattle.rules.specs.Tables.{phaseSet, roleAt, callDigit}
 
 -- the rows of src/tables.rt
@@ -40,11 +40,11 @@ all-below : below calls ≡ true
 unfolding below
 all-below = refl
 
-pub past-entry : (n : ℕ) → 34 ≤ n → entryOf n ≡ entry 0 [] none
+pub past-entry : (n : ℕ) → 34 ≤ n → entryOf n ≡ entry 0 [] noPhase
 unfolding entryOf below
 past-entry n h = go calls all-below
   where
-    go : (es : List Entry) → below es ≡ true → find n es ≡ entry 0 [] none
+    go : (es : List Entry) → below es ≡ true → find n es ≡ entry 0 [] noPhase
     go [] f = refl
     go (e ∷ es) f =
         let l = ltb-true (e .number) 34 (and-left (ltb (e .number) 34) (below es) f) in
@@ -85,7 +85,7 @@ phase-digit n p l = same-true _ _ (all-at (agrees (entryOf n .phases)) 4 p (go (
     agrees x p = same (eqb (phaseSet x / 2 ^ p % 2) 1) (allows x p)
 
     go : (x : Phases) → all (agrees x) 4 ≡ true
-    go none = refl
+    go noPhase = refl
     go I = refl
     go R = refl
     go IR = refl
@@ -94,7 +94,7 @@ pub no-phase : (n p : ℕ) → 4 ≤ p → allows (entryOf n .phases) p ≡ fals
 no-phase n p h = go (entryOf n .phases)
   where
     go : (x : Phases) → allows x p ≡ false
-    go none = refl
+    go noPhase = refl
     go I = ne-eqb p 1 (omega arith)
     go R = ne-eqb p 2 (omega arith)
     go IR = rw (ne-eqb p 1 (omega arith), ne-eqb p 2 (omega arith))

@@ -1,7 +1,7 @@
 -- The encoding loses nothing, and so the promise of a call leaves one answer, one list of words and one list of bytes.
 -- Assumes nothing.
 use Prim.Native.Nat.{ℕ, zero, suc, _+_, _-_, _*_, _/_, _%_, _^_, _≤_, _<_}
-use mathlib.Core.Path.{_≡_, sym, _∙_, ap}
+use mathlib.Core.Path.{_≡_, refl, sym, _∙_, ap, fun-ext}
 use mathlib.Core.Bool.{Bool, true, false, cond}
 use mathlib.Core.Option.{Option, none, some}
 use mathlib.Core.List.{List}
@@ -9,18 +9,19 @@ use native.Mathlib.Omega.{arith}
 use native.Mathlib.Decide.{decLt}
 use native.Mathlib.Nat.{div-add-mod', div-div-eq-div-mul}
 use lib.Dec.{ltb, eqb}
-use lib.ListN.{length, getD}
+use lib.ListN.{length, getD, replicate}
 use lib.Seq.{ext-getD}
 use borrow.Author.Tests.{eqb-true, eqb-false, lt-ltb}
 use Rattle.sets.proofs.Bools.{by-test}
-use Rattle.sets.proofs.Laws.{ext}
+use Rattle.sets.proofs.Laws.{ext, member-none}
 use Rattle.rules.specs.Page.{Page, Table}
 use Rattle.rules.specs.Calls.{Call}
 use Rattle.rules.specs.Fence.{Tracker}
-use Rattle.rules.specs.Ledger.{Ledger, Slot, Hart, Place, inside, outside}
+use Rattle.rules.specs.Ledger.{Ledger, Place, inside, outside, start, bare, opened}
 use Rattle.rules.specs.Step.{Answer, State, step}
 use Rattle.rules.specs.Encoding.{read, part, cell, bits, trackerOf, upper, placeOf, markOf, viewOf, view, pageAt, pagesOf, stateOf, Numbers, Called}
-use Rattle.rules.specs.Promises.{WordsKept, BytesKept, OnlyOne}
+use Rattle.rules.specs.Promises.{WordsKept, BytesKept, OnlyOne, RefusedWritesNothing, ZerosUnopened}
+use Rattle.rules.proofs.Refused.{refused-changes-nothing}
 
 -- ---- one word
 same-set : (s t : ℕ) → s < 256 → t < 256 → bits s ≡ bits t → s ≡ t
@@ -204,3 +205,63 @@ only-one ws b c x y ws₁ ws₂ b₁ b₂ p q =
       words-kept ws₁ ws₂ (p .words) (q .words) (ap (λ (s : State). s .ledger) e),
       bytes-kept (length b) (length b) b₁ b₂ (p .bytes) (q .bytes) (ap (λ (s : State). s .table) e),
     )
+
+pub refused-writes-nothing : RefusedWritesNothing
+refused-writes-nothing ws b c n ws′ b′ nw nb p =
+    let e : stateOf ws′ b′ ≡ stateOf ws b = p .state ∙ refused-changes-nothing (stateOf ws b) c n (sym (p .answer)) in (
+      words-kept ws′ ws (p .words) nw (ap (λ (s : State). s .ledger) e),
+      bytes-kept (length b) (length b) b′ b (p .bytes) nb (ap (λ (s : State). s .table) e),
+    )
+
+-- ---- words that are all 0
+zeros : ℕ → ℕ
+zeros i = 0
+
+zeros-read : (n : ℕ) → read (replicate n 0) ≡ zeros
+unfolding zeros
+zeros-read n = fun-ext (λ i. go n i)
+  where
+    go : (n i : ℕ) → getD {A = ℕ} (replicate n 0) i 0 ≡ 0
+    go zero i = refl
+    go (suc n) zero = refl
+    go (suc n) (suc i) = go n i
+
+either : (b : Bool) (x : ℕ) → cond b x x ≡ x
+either true x = refl
+either false x = refl
+
+pub zeros-unopened : ZerosUnopened
+unfolding viewOf zeros
+zeros-unopened = ap viewOf (zeros-read 426) ∙ blank
+  where
+    empty : bits 0 ≡ (λ j. false)
+    empty = fun-ext member-none
+
+    part0 : (base n i : ℕ) → part zeros base n i ≡ 0
+    part0 base n i = either (ltb i n) 0
+
+    cell0 : (base rows columns k i : ℕ) → cell zeros base rows columns k i ≡ 0
+    cell0 base rows columns k i = ap (λ (x : ℕ). cond (ltb i columns) x 0) (part0 base (rows * columns) (columns * k + i)) ∙ either (ltb i columns) 0
+
+    fence0 : trackerOf 0 ≡ start
+    fence0 = λ x. record { version = 0; awaited = empty x }
+
+    blank : viewOf zeros ≡ opened 0 0
+    blank = λ x. record {
+      harts = 0;
+      pages = 0;
+      global = fence0 x;
+      slot = fun-ext slots x;
+      hart = fun-ext harts x;
+    }
+      where
+        slots : (k : ℕ) → viewOf zeros .slot k ≡ bare 0 start
+        slots k = λ x. record {
+          phase = part0 18 16 k x;
+          fence = (ap trackerOf (part0 2 16 k) ∙ fence0) x;
+          made = (ap (λ (y : ℕ). bits (upper y)) (part0 2 16 k) ∙ empty) x;
+          region = λ i. record { first = cell0 34 16 8 k i x; pages = cell0 162 16 8 k i x };
+        }
+
+        harts : (j : ℕ) → viewOf zeros .hart j ≡ record { place = outside; mark = λ k. none }
+        harts j = λ x. record { place = ap placeOf (part0 290 8 j) x; mark = λ k. ap markOf (cell0 298 8 16 j k) x }

@@ -1,10 +1,10 @@
 -- Document 01, "Calls": what each argument of a call is, and the phases in which the call is lawful.
-use Rattle.sets.specs.Terms.{ℕ, _-_, _*_, _/_, Bool, false, cond, _||_, List, [], _∷_, ltb, eqb, length, drop, some}
+use Rattle.sets.specs.Terms.{ℕ, _-_, _*_, _/_, Bool, false, cond, _||_, List, [], _∷_, ltb, eqb, length, drop, anyIn}
 pub use Rattle.rules.specs.declared.Call.{Call}
 pub use Rattle.rules.specs.declared.Role.{Role}
 pub use Rattle.rules.specs.declared.Role.the-variants.{Tvm, Vcpu, HostBase, FreeBase, DirectoryBase, UnitCount, UnitType, GuestBase, ByteLength, HartCount, PageCount}
 
--- a number for each role, for the code's table
+-- a number for each role, by which they are told apart
 abbrev pub code : Role → ℕ
 code Tvm = 1
 code Vcpu = 2
@@ -18,15 +18,15 @@ code ByteLength = 9
 code HartCount = 10
 code PageCount = 11
 
--- "I is initializing, R runnable": the phases in which a call on a TVM is lawful
+-- "I is initializing, R runnable": the phases in which a call on a TVM is lawful; the other calls have none
 pub data Phases : Type 0 where
-  none : Phases
+  noPhase : Phases
   I : Phases
   R : Phases
   IR : Phases
 
 abbrev pub allows : Phases → ℕ → Bool
-allows none p = false
+allows noPhase p = false
 allows I p = eqb p 1
 allows R p = eqb p 2
 allows IR p = eqb p 1 || eqb p 2
@@ -42,11 +42,11 @@ entry n a p = record { number = n; arguments = a; phases = p }
 
 abbrev pub calls : List Entry
 calls =
-    entry 1 (HostBase ∷ UnitCount ∷ []) none
-    ∷ entry 2 (FreeBase ∷ UnitCount ∷ []) none
-    ∷ entry 3 [] none
-    ∷ entry 4 [] none
-    ∷ entry 5 (DirectoryBase ∷ FreeBase ∷ []) none
+    entry 1 (HostBase ∷ UnitCount ∷ []) noPhase
+    ∷ entry 2 (FreeBase ∷ UnitCount ∷ []) noPhase
+    ∷ entry 3 [] noPhase
+    ∷ entry 4 [] noPhase
+    ∷ entry 5 (DirectoryBase ∷ FreeBase ∷ []) noPhase
     ∷ entry 6 (Tvm ∷ []) I
     ∷ entry 8 (Tvm ∷ []) IR
     ∷ entry 9 (Tvm ∷ GuestBase ∷ ByteLength ∷ []) I
@@ -59,12 +59,12 @@ calls =
     ∷ entry 17 (Tvm ∷ GuestBase ∷ ByteLength ∷ []) R
     ∷ entry 18 (Tvm ∷ GuestBase ∷ ByteLength ∷ []) R
     ∷ entry 19 (Tvm ∷ GuestBase ∷ ByteLength ∷ []) R
-    ∷ entry 32 [] none
-    ∷ entry 33 (HartCount ∷ PageCount ∷ []) none
+    ∷ entry 32 [] noPhase
+    ∷ entry 33 (HartCount ∷ PageCount ∷ []) noPhase
     ∷ []
 
 abbrev pub find : ℕ → List Entry → Entry
-find n [] = entry 0 [] none
+find n [] = entry 0 [] noPhase
 find n (e ∷ es) = cond (eqb n (e .number)) e (find n es)
 
 -- the entry of a call number; number 0 and no arguments where the table has none
@@ -73,7 +73,7 @@ entryOf n = find n calls
 
 -- the call names an argument of the role, and its value; 0 where it names none
 unfoldable pub names : Role → Call → Bool
-names r c = some (λ x. eqb (code r) (code x)) (entryOf (c .number) .arguments)
+names r c = anyIn (λ x. eqb (code r) (code x)) (entryOf (c .number) .arguments)
 
 abbrev pub pick : Role → List Role → List ℕ → ℕ
 pick r [] vs = 0
@@ -88,7 +88,7 @@ arg r c = pick r (entryOf (c .number) .arguments) (values c)
 
 -- "unnamed ones must be 0": some other argument is not
 unfoldable pub unnamed : Call → Bool
-unnamed c = some (ltb 0) (drop (length (entryOf (c .number) .arguments)) (values c))
+unnamed c = anyIn (ltb 0) (drop (length (entryOf (c .number) .arguments)) (values c))
 
 -- open; 17 to 19
 abbrev pub opens : Call → Bool
@@ -118,10 +118,10 @@ index address = (address - memory) / 4096
 pub record Span : Type 0 where
   pub base : ℕ
   pub pages : ℕ
-  pub step : ℕ
+  pub align : ℕ
 
 abbrev pub span : ℕ → ℕ → ℕ → Span
-span b n s = record { base = b; pages = n; step = s }
+span b n a = record { base = b; pages = n; align = a }
 
 unfoldable pub hostSpans : Call → List Span
 hostSpans c = cond (names HostBase c) (span (arg HostBase c) (size c) 1 ∷ []) []

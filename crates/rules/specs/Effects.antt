@@ -1,27 +1,24 @@
 -- Document 01, "Calls": what success does to the table and to the ledger, and its value.
-use mathlib.Core.Option as Option
-use Rattle.sets.specs.Terms.{ℕ, _+_, _-_, min, Bool, true, cond, _&&_, ltb, eqb, some, row, within, put}
+use mathlib.Core.Option.{some}
+use Rattle.sets.specs.Terms.{ℕ, _+_, _-_, min, Bool, true, cond, _&&_, ltb, eqb, anyIn, row, within, put}
 use Rattle.sets.specs.Look.{lowest}
-use Rattle.rules.specs.Page.{Page, Table, over, page, guestPage, guestWord, isLarge, isGiven, isMeant}
+use Rattle.rules.specs.Page.{Page, Table, over, page, moved, guestWord, isGiven, isMeant}
 use Rattle.rules.specs.Fence.{begin, strike, number}
 use Rattle.rules.specs.Ledger.{Ledger, Slot, Hart, inside, outside, bare, opened, withGlobal, withSlot, withHart, withFence, slot, slotOf, placeNumber, othersOf, insidersOf, flushes}
 use Rattle.rules.specs.Calls.{Call, Tvm, Vcpu, HostBase, FreeBase, DirectoryBase, UnitType, HartCount, PageCount, arg, moves, size, firstGuest, index, freeSpans}
 use Rattle.rules.specs.Refusals.{theSlot, taken, unused}
 
 module _ (l : Ledger) (t : Table) (c : Call) where
-  -- record i is written: 17 to 19, those meant; else the pages named, of 11 the dest
+  -- record i is written: 17 to 19, those meant; 8, the slot's; 33, all; else the pages named, of 11 the dest
   unfoldable pub writes : ℕ → Bool
   writes i =
       row (c .number) 1 (within (index (arg HostBase c)) (size c) i)
       (row (c .number) 8 (isGiven (t .page i) && eqb (t .page i .slot) (arg Tvm c))
-      (row (c .number) 33 (ltb i (arg PageCount c)) (cond (moves c) (isMeant t (l .pages) (arg Tvm c) (firstGuest c) (size c) i) (some (λ s. within (index (s .base)) (s .pages) i) (freeSpans c)))))
+      (row (c .number) 33 (ltb i (arg PageCount c)) (cond (moves c) (isMeant t (l .pages) (arg Tvm c) (firstGuest c) (size c) i) (anyIn (λ s. within (index (s .base)) (s .pages) i) (freeSpans c)))))
 
-  -- what is written there: "page i of a range goes to guest page i"; "kind 7 to 8, bit 31 kept (18 too)"
+  -- what is written there: "page i of a range goes to guest page i"
   abbrev pub mapping : ℕ → Page
   mapping i = page 7 (arg Tvm c) 0 (guestWord (firstGuest c + (i - index (arg FreeBase c))) (eqb (arg UnitType c) 1))
-
-  abbrev pub moved : ℕ → ℕ → Page → Page
-  moved kind version p = page kind (arg Tvm c) version (guestWord (guestPage p) (isLarge p))
 
   unfoldable pub written : ℕ → Page
   written i =
@@ -32,8 +29,8 @@ module _ (l : Ledger) (t : Table) (c : Call) where
       (row (c .number) 11 (mapping i)
       (row (c .number) 12 (mapping i)
       (row (c .number) 14 (page 5 (arg Tvm c) 0 0)
-      (row (c .number) 17 (moved 8 (theSlot l t c .fence .version) (t .page i))
-      (row (c .number) 18 (moved 7 0 (t .page i))
+      (row (c .number) 17 (moved 8 (arg Tvm c) (theSlot l t c .fence .version) (t .page i))
+      (row (c .number) 18 (moved 7 (arg Tvm c) 0 (t .page i))
       (row (c .number) 19 (page 2 0 0 0) (page 0 0 0 0))))))))))
 
   unfoldable pub table : Table
@@ -51,7 +48,7 @@ module _ (l : Ledger) (t : Table) (c : Call) where
 
   -- entering sets the mark; leaving strikes the hart out of the slot where it is
   abbrev pub entered : Hart → Hart
-  entered x = record { place = inside (arg Tvm c) (arg Vcpu c); mark = put (arg Tvm c) (Option.some (theSlot l t c .fence .version)) (x .mark) }
+  entered x = record { place = inside (arg Tvm c) (arg Vcpu c); mark = put (arg Tvm c) (some (theSlot l t c .fence .version)) (x .mark) }
 
   abbrev pub left : ℕ → Hart → Ledger
   left k x = withHart (c .hart) (record { place = outside; mark = x .mark }) (withSlot k (withFence (strike (c .hart) (l .slot k .fence)) (l .slot k)) l)

@@ -23,7 +23,7 @@ cell w base rows columns k i = cond (ltb i columns) (part w base (rows * columns
 abbrev pub bits : ℕ → ℕ → Bool
 bits s j = member j s
 
--- a fence's word: bits 0 to 15 are the version, 16 to 23 the awaited harts; what stands in bits 24 to 31 is its own
+-- a fence's word: bits 0 to 15 are the version, 16 to 23 the awaited harts; bits 24 to 31 hold something else, as said below
 abbrev pub trackerOf : ℕ → Tracker
 trackerOf x = record { version = x % 65536; awaited = bits (x / 65536 % 256) }
 

@@ -31,9 +31,9 @@ pub record Ledger : Type 0 where
   pub slot : ℕ → Slot
   pub hart : ℕ → Hart
 
--- a ledger is open when it has "harts 1 to 8"
+-- a ledger is open when its sizes are such as open gives: "harts 1 to 8; memory 1 to 4,096 pages"
 abbrev pub isOpen : Ledger → Bool
-isOpen l = within 1 8 (l .harts)
+isOpen l = within 1 8 (l .harts) && within 1 4096 (l .pages)
 
 -- a slot put together; one with no vCPUs and no regions
 abbrev pub slot : ℕ → Tracker → (ℕ → Bool) → (ℕ → Region) → Slot

@@ -1,9 +1,9 @@
 -- Document 01, "A page record".
-use Rattle.sets.specs.Terms.{ℕ, _+_, _/_, _%_, Bool, cond, _&&_, _||_, ltb, leb, eqb, within}
+use Rattle.sets.specs.Terms.{ℕ, _+_, _*_, _/_, _%_, Bool, cond, not, _&&_, _||_, ltb, leb, eqb, within}
 use Rattle.sets.specs.Look.{lowest}
 pub use Rattle.rules.specs.declared.Page.{Page}
 
--- A record that is written. "Fields that a kind does not use are 0 when written." The kinds are the paper's: 0 ordinary, 1 converting,
+-- A record by its four numbers. "Fields that a kind does not use are 0 when written." The kinds are the paper's: 0 ordinary, 1 converting,
 -- 2 free confidential, 3 directory, 4 TVM state, 5 vCPU state, 6 page-table pool, 7 mapped, present, 8 mapped, blocked.
 abbrev pub page : ℕ → ℕ → ℕ → ℕ → Page
 page kind slot version guest = record { kind = kind; slot = slot; version = version; guest = guest }
@@ -47,6 +47,14 @@ meant t n slot g = lowest (λ i. claims slot g (t .page i)) n
 -- record i is the one meant by one of the `count` guest pages from `first` on
 unfoldable pub isMeant : Table → ℕ → ℕ → ℕ → ℕ → ℕ → Bool
 isMeant t n slot first count i = ltb i n && within first count (guestPage (t .page i)) && eqb (meant t n slot (guestPage (t .page i))) i
+
+-- "a large mapping isn't wholly inside the range"; it "is the 512 guest pages of the 2 MiB block around it"
+abbrev pub isCut : ℕ → ℕ → Page → Bool
+isCut first count p = let block = guestPage p / 512 * 512 in isLarge p && not (leb first block && leb (block + 512) (first + count))
+
+-- a mapped page of the slot with another kind and version: "bit 31 kept"
+abbrev pub moved : ℕ → ℕ → ℕ → Page → Page
+moved kind slot version p = page kind slot version (guestWord (guestPage p) (isLarge p))
 
 -- the table with the records that `which` names written anew
 abbrev pub over : Table → (ℕ → Bool) → (ℕ → Page) → Table

@@ -1,7 +1,7 @@
 -- Document 01, "Refusal numbers": one condition for each number, and the lowest that holds.
-use Rattle.sets.specs.Terms.{ℕ, suc, _+_, _*_, _/_, _%_, min, max, Bool, cond, not, _&&_, _||_, List, [], _∷_, _++_, ltb, leb, eqb, oneOf, some, row, within}
+use Rattle.sets.specs.Terms.{ℕ, suc, _+_, _*_, _%_, min, max, Bool, cond, not, _&&_, _||_, List, [], _∷_, _++_, ltb, leb, eqb, oneOf, anyIn, row, within}
 use Rattle.sets.specs.Look.{any, lowest}
-use Rattle.rules.specs.Page.{Page, Table, fits, isFree, isLarge, guestPage, meant}
+use Rattle.rules.specs.Page.{Page, Table, fits, isFree, isCut, meant}
 use Rattle.rules.specs.Fence.{done, someone}
 use Rattle.rules.specs.Ledger.{Ledger, Slot, Region, isOpen, isOutside, isAt, insidersOf}
 use Rattle.rules.specs.Calls.{Call, Span, Tvm, Vcpu, DirectoryBase, FreeBase, UnitCount, UnitType, GuestBase, ByteLength, HartCount, PageCount, entryOf, allows, names, arg, unnamed, opens, moves, unit, size, firstGuest, memory, index, hostSpans, freeSpans}
@@ -51,19 +51,19 @@ module _ (l : Ledger) (t : Table) (c : Call) where
   -- 5: "address not on 4 KiB (directory: 16 KiB; type 1: dest, base and guest 2 MiB), or page range starts below memory or ends past it, or
   -- guest range ends past 2^32, all reckoned without wrapping; state page inside the directory"
   abbrev pub misplaced : Span → Bool
-  misplaced s = not (eqb (s .base % (4096 * s .step)) 0) || ltb (s .base) memory || ltb (memory + 4096 * l .pages) (s .base + 4096 * s .pages)
+  misplaced s = not (eqb (s .base % (4096 * s .align)) 0) || ltb (s .base) memory || ltb (memory + 4096 * l .pages) (s .base + 4096 * s .pages)
 
   unfoldable pub refuses5 : Bool
   refuses5 =
       oneOf
-      (some misplaced (hostSpans c)
-      ∷ some misplaced (freeSpans c)
+      (anyIn misplaced (hostSpans c)
+      ∷ anyIn misplaced (freeSpans c)
       ∷ (names GuestBase c && not (eqb (arg GuestBase c % (4096 * unit c)) 0))
       ∷ (names GuestBase c && ltb 4294967296 (arg GuestBase c + 4096 * size c))
       ∷ (names DirectoryBase c && within (arg DirectoryBase c) 16384 (arg FreeBase c))
       ∷ [])
 
-  -- the record that a guest page of the TVM means; it is mapped where there is one
+  -- the record that a guest page of the TVM means; the guest page is mapped where there is one
   abbrev pub theOne : ℕ → ℕ
   theOne g = meant t (l .pages) (arg Tvm c) g
 
@@ -71,27 +71,27 @@ module _ (l : Ledger) (t : Table) (c : Call) where
   mapped g = ltb (theOne g) (l .pages)
 
   -- some record of the span passes; some guest page of the range passes
-  abbrev pub someOf : (Page → Bool) → Span → Bool
-  someOf p s = any (λ i. p (t .page (index (s .base) + i))) (s .pages)
+  abbrev pub anyPage : (Page → Bool) → Span → Bool
+  anyPage p s = any (λ i. p (t .page (index (s .base) + i))) (s .pages)
 
-  abbrev pub someGuest : (ℕ → Bool) → Bool
-  someGuest p = any (λ j. p (firstGuest c + j)) (size c)
+  abbrev pub anyGuest : (ℕ → Bool) → Bool
+  anyGuest p = any (λ j. p (firstGuest c + j)) (size c)
 
   -- 6: "a page isn't of the kind wanted (free: 1 or 2; 11's source: 0); for 17 to 19 a guest page not mapped, or not present (17), not
   -- blocked (18, 19)"
   unfoldable pub refuses6 : Bool
   refuses6 =
       oneOf
-      (some (someOf (λ p. not (eqb (p .kind) 0))) (hostSpans c)
-      ∷ some (someOf (λ p. not (isFree p))) (freeSpans c)
-      ∷ (moves c && someGuest (λ g. not (mapped g && eqb (t .page (theOne g) .kind) (row (c .number) 17 7 8))))
+      (anyIn (anyPage (λ p. not (eqb (p .kind) 0))) (hostSpans c)
+      ∷ anyIn (anyPage (λ p. not (isFree p))) (freeSpans c)
+      ∷ (moves c && anyGuest (λ g. not (mapped g && eqb (t .page (theOne g) .kind) (row (c .number) 17 7 8))))
       ∷ [])
 
   -- 7: "a free page is wanted and it is kind 1, not done; 18, 19: recorded version not done"
   unfoldable pub refuses7 : Bool
   refuses7 =
-      some (someOf (λ p. eqb (p .kind) 1 && not (done (l .global) (p .version)))) (freeSpans c)
-      || (eqb (c .number) 18 || eqb (c .number) 19) && someGuest (λ g. not (done (theSlot .fence) (t .page (theOne g) .version)))
+      anyIn (anyPage (λ p. eqb (p .kind) 1 && not (done (l .global) (p .version)))) (freeSpans c)
+      || (eqb (c .number) 18 || eqb (c .number) 19) && anyGuest (λ g. not (done (theSlot .fence) (t .page (theOne g) .version)))
 
   -- 8: "3, 16: a hart is still awaited"
   unfoldable pub refuses8 : Bool
@@ -122,7 +122,7 @@ module _ (l : Ledger) (t : Table) (c : Call) where
 
   -- 11: "11, 12: a guest page already mapped, blocked or not"
   unfoldable pub refuses11 : Bool
-  refuses11 = names UnitType c && someGuest mapped
+  refuses11 = names UnitType c && anyGuest mapped
 
   -- 12: "hart is inside a TVM (all but 32); vCPU already made, or running elsewhere; destroy with a vCPU inside"
   unfoldable pub refuses12 : Bool
@@ -138,14 +138,9 @@ module _ (l : Ledger) (t : Table) (c : Call) where
   unfoldable pub refuses13 : Bool
   refuses13 = eqb (c .number) 3 && leb 65535 (l .global .version) || eqb (c .number) 16 && leb 65534 (theSlot .fence .version)
 
-  -- 14: "17 to 19: a large mapping isn't wholly inside the range"; it "is the 512 guest pages of the 2 MiB block around it"
-  abbrev pub cut : Page → Bool
-  cut p =
-      let block = guestPage p / 512 * 512 in
-      isLarge p && not (leb (firstGuest c) block && leb (block + 512) (firstGuest c + size c))
-
+  -- 14: "17 to 19: a large mapping isn't wholly inside the range"
   unfoldable pub refuses14 : Bool
-  refuses14 = moves c && someGuest (λ g. cut (t .page (theOne g)))
+  refuses14 = moves c && anyGuest (λ g. isCut (firstGuest c) (size c) (t .page (theOne g)))
 
   -- 15: "leave from a hart that is outside"
   unfoldable pub refuses15 : Bool

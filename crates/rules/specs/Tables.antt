@@ -1,10 +1,10 @@
 -- What the rows of the code's constant table of calls say.
 use Rattle.sets.specs.Terms.{ℕ, _∷_, map, min, getD}
-use Rattle.rules.specs.Calls.{Phases, none, I, R, IR, code, entryOf}
+use Rattle.rules.specs.Calls.{Phases, noPhase, I, R, IR, code, entryOf}
 
--- phase p is digit p of a set
+-- the phases as a set: phase p is binary digit p
 abbrev pub phaseSet : Phases → ℕ
-phaseSet none = 0
+phaseSet noPhase = 0
 phaseSet I = 2
 phaseSet R = 4
 phaseSet IR = 6
@@ -13,6 +13,6 @@ phaseSet IR = 6
 unfoldable pub roleAt : ℕ → ℕ → ℕ
 roleAt n i = getD (map code (entryOf n .arguments)) i 0
 
--- the row's digits from the left: 1 where the call is in the table, the phases, what each of a0 to a5 is
+-- the row's hex digits from the left: 1 where the call is in the table, the phases, what each of a0 to a5 is
 unfoldable pub callDigit : ℕ → ℕ → ℕ
 callDigit n i = getD (min 1 (entryOf n .number) ∷ phaseSet (entryOf n .phases) ∷ map code (entryOf n .arguments)) i 0

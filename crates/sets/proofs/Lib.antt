@@ -3,3 +3,4 @@ pub mod Digits
 pub mod Laws
 pub mod Looks
 pub mod OneOf
+pub mod PageSets

@@ -6,7 +6,7 @@ use mathlib.Core.Logic.{⊎-elim}
 use mathlib.Core.Bool.{Bool, true, false, cond, _||_, true≢false, or-true}
 use native.Mathlib.Omega.{arith}
 use native.Mathlib.Numerals.{add-one}
-use native.Mathlib.Nat.{not-suc-le-zero, le-of-suc-le-suc, eq-or-lt-of-le}
+use native.Mathlib.Nat.{add-zero, add-suc, not-suc-le-zero, le-of-suc-le-suc, eq-or-lt-of-le}
 use lib.Dec.{ltb}
 use borrow.Author.Tests.{ltb-true, lt-ltb, le-ltb}
 use Rattle.sets.specs.Look.{any, all, count, lowest}
@@ -59,6 +59,12 @@ pub count-low : (f : ℕ → Bool) (n : ℕ) → count f (suc n) ≡ cond (f 0) 
 unfolding count
 count-low f zero = omega arith
 count-low f (suc n) = omega (arith, count-low f n)
+
+-- counting on from n
+pub count-add : (f : ℕ → Bool) (n m : ℕ) → count f (n + m) ≡ count f n + count (λ k. f (n + k)) m
+unfolding count
+count-add f n zero = rw (add-zero n) (omega arith)
+count-add f n (suc m) = rw (add-suc n m) (omega (arith, count-add f n m))
 
 -- the lowest that passes is at most n; where it is below n it passes
 pub lowest-le : (p : ℕ → Bool) (n : ℕ) → lowest p n ≤ n

@@ -1,3 +1,4 @@
 pub mod Terms
 pub mod Look
 pub mod Set
+pub mod Pages

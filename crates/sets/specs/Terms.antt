@@ -21,8 +21,8 @@ within first number i = leb first i && ltb i (first + number)
 
 module _ {A : Type 0} where
   -- some element of a list passes
-  abbrev pub some : (A → Bool) → List A → Bool
-  some p xs = oneOf (map p xs)
+  abbrev pub anyIn : (A → Bool) → List A → Bool
+  anyIn p xs = oneOf (map p xs)
 
   -- f with v at the place k
   abbrev pub put : ℕ → A → (ℕ → A) → ℕ → A

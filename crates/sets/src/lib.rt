@@ -40,4 +40,5 @@ pub fn first(n: u8) -> u8
     ((1u16 << n) - 1) as u8
 }
 
+pub mod pages;
 pub mod word;
