@@ -1,2 +1,4 @@
 pub mod Bytes
+pub mod GuestLook
+pub mod Meant
 pub mod WritePass

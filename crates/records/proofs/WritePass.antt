@@ -49,6 +49,10 @@ module _ (t : Table) (which : ℕ → Bool) (new : ℕ → Page) where
       go : (j : ℕ) → (ltb j i && which j) ≡ (ltb j (i + 1) && which j)
       go j = by-test (eqb j i) (λ q. rw (eqb-true j i q, s, lt-ltb i (i + 1) (omega arith), le-ltb i i (omega arith))) (λ q. sym (next i j q))
 
+  -- at the end, where none from i on is chosen
+  pub pass-end : (i : ℕ) → ((j : ℕ) → i ≤ j → which j ≡ false) → upTo t which new i ≡ over t which new
+  pass-end i h = over-ext t (λ j. ltb j i && which j) which new (λ j. by-test (ltb j i) (λ e. rw e) (λ e. rw (e, h j (ltb-false j i e))))
+
   -- the record at hand is still as it was
   pub at-hand : (i : ℕ) (t′ : Table) → t′ ≡ upTo t which new i → t′ .page i ≡ t .page i
   at-hand i t′ e = ap (λ (x : Table). x .page i) e ∙ rw (le-ltb i i (omega arith))

@@ -2,7 +2,7 @@
 -- Assumes nothing.
 use mathlib.Core.Path.{_≡_, refl, sym, ap, ap₂, _∙_}
 use mathlib.Core.Logic.{_≢_}
-use mathlib.Core.Bool.{Bool, true, false, not, _&&_, _||_}
+use mathlib.Core.Bool.{Bool, true, false, cond, not, _&&_, _||_}
 use mathlib.Core.List.{List, [], _∷_}
 use Prim.Native.Nat.{ℕ, zero, suc, _+_, _*_, _/_, _%_, _^_, _≤_, _<_}
 use native.Mathlib.Nat.{div-add-mod', add-zero, add-suc, add-comm, suc-mul, zero-mul, div-eq-of-lt, mod-eq-of-lt, add-div-left, add-mod-left}
@@ -10,14 +10,15 @@ use native.Mathlib.Omega.{arith}
 use native.Mathlib.Numerals.{add-one}
 use native.Mathlib.Decide.{ℕ-discrete, decLt}
 use lib.Dec.{eqb}
-use lib.ListN.{length, getD, set, replicate, getD-replicate, length-replicate, List·getD-eq-default}
+use lib.ListN.{length, getD, set, replicate, getD-replicate, length-replicate, length-set, List·getD-eq-default}
 use lib.Arith.{digits-lt, digits-div, digits-mod}
 use lib.Seq.{getD-set-same, getD-set-other, ext-getD}
-use borrow.Author.Tests.{eq-eqb, ne-eqb}
+use borrow.Author.Tests.{eqb-true, eqb-false, eq-eqb, ne-eqb}
 use Rattle.sets.specs.Look.{count}
 use Rattle.sets.specs.Set.{member, with, without}
 use Rattle.sets.proofs.Laws.{member-with, member-without, member-none, ext, count-ones}
-use Rattle.sets.proofs.Looks.{count-same, count-add}
+use Rattle.sets.proofs.Looks.{count-same, count-add, count-one-more}
+use Rattle.sets.proofs.Bools.{by-test}
 use Rattle.sets.specs.Pages.{memberIn, withIn, withoutIn, onesIn}
 
 -- numbers of one word are told apart by their digits
@@ -34,27 +35,30 @@ eqb-digit w j d e = go (ℕ-discrete j d)
 eqb-word : (w j d : ℕ) → j / w ≢ d / w → eqb j d ≡ false
 eqb-word w j d n = ne-eqb j d (λ e. n (ap (λ (x : ℕ). x / w) e))
 
-pub member-with-in : (w j d : ℕ) (xs : List ℕ) → d / w < length xs → memberIn w j (withIn w xs d) ≡ (eqb j d || memberIn w j xs)
-unfolding memberIn withIn
-member-with-in w j d xs h = go (ℕ-discrete (j / w) (d / w))
-  where
-    v : ℕ
-    v = with (getD xs (d / w) 0) (d % w)
+-- after a store into one word
+member-set : (w j d v : ℕ) (xs : List ℕ) → d / w < length xs
+    → memberIn w j (set xs (d / w) v) ≡ cond (eqb (j / w) (d / w)) (member (j % w) v) (memberIn w j xs)
+unfolding memberIn
+member-set w j d v xs h =
+    by-test (eqb (j / w) (d / w))
+    (λ e. rw (e, eqb-true (j / w) (d / w) e, getD-set-same xs (d / w) v 0 h))
+    (λ e. rw (e, getD-set-other xs (d / w) (j / w) v 0 (eqb-false (j / w) (d / w) e)))
 
-    go : Dec (j / w ≡ d / w) → member (j % w) (getD (set xs (d / w) v) (j / w) 0) ≡ (eqb j d || member (j % w) (getD xs (j / w) 0))
-    go (yes e) = rw (e, getD-set-same xs (d / w) v 0 h, member-with (j % w) (getD xs (d / w) 0) (d % w), eqb-digit w j d e)
-    go (no n) = rw (getD-set-other xs (d / w) (j / w) v 0 n, eqb-word w j d n)
+pub member-with-in : (w j d : ℕ) (xs : List ℕ) → d / w < length xs → memberIn w j (withIn w xs d) ≡ (eqb j d || memberIn w j xs)
+unfolding withIn memberIn
+member-with-in w j d xs h =
+    member-set w j d (with (getD xs (d / w) 0) (d % w)) xs h
+    ∙ by-test (eqb (j / w) (d / w))
+    (λ e. rw (e, member-with (j % w) (getD xs (d / w) 0) (d % w), eqb-digit w j d (eqb-true (j / w) (d / w) e), eqb-true (j / w) (d / w) e))
+    (λ e. rw (e, eqb-word w j d (eqb-false (j / w) (d / w) e)))
 
 pub member-without-in : (w j d : ℕ) (xs : List ℕ) → d / w < length xs → memberIn w j (withoutIn w xs d) ≡ (not (eqb j d) && memberIn w j xs)
-unfolding memberIn withoutIn
-member-without-in w j d xs h = go (ℕ-discrete (j / w) (d / w))
-  where
-    v : ℕ
-    v = without (getD xs (d / w) 0) (d % w)
-
-    go : Dec (j / w ≡ d / w) → member (j % w) (getD (set xs (d / w) v) (j / w) 0) ≡ (not (eqb j d) && member (j % w) (getD xs (j / w) 0))
-    go (yes e) = rw (e, getD-set-same xs (d / w) v 0 h, member-without (j % w) (getD xs (d / w) 0) (d % w), eqb-digit w j d e)
-    go (no n) = rw (getD-set-other xs (d / w) (j / w) v 0 n, eqb-word w j d n)
+unfolding withoutIn memberIn
+member-without-in w j d xs h =
+    member-set w j d (without (getD xs (d / w) 0) (d % w)) xs h
+    ∙ by-test (eqb (j / w) (d / w))
+    (λ e. rw (e, member-without (j % w) (getD xs (d / w) 0) (d % w), eqb-digit w j d (eqb-true (j / w) (d / w) e), eqb-true (j / w) (d / w) e))
+    (λ e. rw (e, eqb-word w j d (eqb-false (j / w) (d / w) e)))
 
 getD-zeros : (n i : ℕ) → getD {A = ℕ} (replicate n 0) i 0 ≡ 0
 getD-zeros n i = go (decLt i n)
@@ -91,3 +95,12 @@ count-in w (x ∷ xs) p h =
 
     high : (k : ℕ) → k < length xs * w → memberIn w k xs ≡ memberIn w (w + k) (x ∷ xs)
     high k l = rw (add-div-left k p, add-mod-left w k, add-one (k / w)) refl
+
+-- a number that was not in comes in: there is one more
+pub count-with-in : (w d n : ℕ) (xs : List ℕ) → d < n → d / w < length xs → memberIn w d xs ≡ false
+    → count (λ k. memberIn w k (withIn w xs d)) n ≡ count (λ k. memberIn w k xs) n + 1
+count-with-in w d n xs l h e = count-one-more (λ k. memberIn w k xs) (λ k. memberIn w k (withIn w xs d)) d n l e (λ k b. member-with-in w k d xs h)
+
+pub length-with-in : (w d : ℕ) (xs : List ℕ) → length (withIn w xs d) ≡ length xs
+unfolding withIn
+length-with-in w d xs = length-set xs (d / w) _
