@@ -62,48 +62,38 @@ pub fn tvm_done(t: TvmTracker, r: TvmVersion) -> bool
     past(t.version.0, t.awaited, r.0)
 }
 
-pub fn global_begun(g: GlobalTracker, others: u8) -> GlobalTracker
+pub fn global_begun(g: GlobalTracker, awaited: u8) -> GlobalTracker
     requires { ⌜ g .version .0 < 65535 ⌝ }
-    ensures { λ r. ⌜ r ≡ globalBegun g others ⌝ }
+    ensures { λ r. ⌜ r ≡ globalBegun g awaited ⌝ }
 {
-    let v = g.version.0;
-    GlobalTracker {
-        version: GlobalVersion(v + 1),
-        awaited: others,
-    }
+    let version = GlobalVersion(g.version.0 + 1);
+    GlobalTracker { version, awaited }
+}
+
+pub fn tvm_begun(t: TvmTracker, awaited: u8) -> TvmTracker
+    requires { ⌜ t .version .0 < 65535 ⌝ }
+    ensures { λ r. ⌜ r ≡ tvmBegun t awaited ⌝ }
+{
+    let version = TvmVersion(t.version.0 + 1);
+    TvmTracker { version, awaited }
 }
 
 pub fn global_struck(g: GlobalTracker, hart: u8) -> GlobalTracker
     requires { ⌜ hart < 8 ⌝ }
     ensures { λ r. ⌜ r ≡ globalStruck g hart ⌝ }
 {
-    let v = g.version;
-    GlobalTracker {
-        version: v,
-        awaited: sets::remove(g.awaited, hart),
-    }
-}
-
-pub fn tvm_begun(t: TvmTracker, inside: u8) -> TvmTracker
-    requires { ⌜ t .version .0 < 65535 ⌝ }
-    ensures { λ r. ⌜ r ≡ tvmBegun t inside ⌝ }
-{
-    let v = t.version.0;
-    TvmTracker {
-        version: TvmVersion(v + 1),
-        awaited: inside,
-    }
+    let version = g.version;
+    let awaited = sets::remove(g.awaited, hart);
+    GlobalTracker { version, awaited }
 }
 
 pub fn tvm_struck(t: TvmTracker, hart: u8) -> TvmTracker
     requires { ⌜ hart < 8 ⌝ }
     ensures { λ r. ⌜ r ≡ tvmStruck t hart ⌝ }
 {
-    let v = t.version;
-    TvmTracker {
-        version: v,
-        awaited: sets::remove(t.awaited, hart),
-    }
+    let version = t.version;
+    let awaited = sets::remove(t.awaited, hart);
+    TvmTracker { version, awaited }
 }
 
 // Entry flushes exactly when the hart's mark is not the slot's version.

@@ -104,5 +104,13 @@ one-shl w k h = let l : 2 ^ k < 2 ^ w = pow-lt h in ap (λ (x : ℕ). x % 2 ^ w)
 pub with-lt : (n s k : ℕ) → k < n → s < 2 ^ n → with s k < 2 ^ n
 with-lt n s k l h = rw with-put (put-lt n 1 k s (omega arith) l h)
 
+pub without-lt : (n s k : ℕ) → s < 2 ^ n → without s k < 2 ^ n
+unfolding without
+without-lt n s k h = go (member k s)
+  where
+    go : (b : Bool) → cond b (s - 2 ^ k) s < 2 ^ n
+    go true = omega arith
+    go false = h
+
 pub member-none : (k : ℕ) → member k 0 ≡ false
 member-none k = member-is k 0 ∙ ap (λ (x : ℕ). eqb x 1) (bit-past 0 k 0 (omega arith) (omega arith))

@@ -8,21 +8,21 @@ pub fn has(s: u8, k: u8) -> bool
     requires { ⌜ k < 8 ⌝ }
     ensures { λ r. ⌜ r ≡ member k s ⌝ }
 {
-    (s >> k) % 2 == 1
+    word::has(s as u64, k as usize)
 }
 
 pub fn insert(s: u8, k: u8) -> u8
     requires { ⌜ k < 8 ⌝ }
     ensures { λ r. ⌜ r ≡ with s k ⌝ }
 {
-    s | (1u8 << k)
+    word::insert(s as u64, k as usize) as u8
 }
 
 pub fn remove(s: u8, k: u8) -> u8
     requires { ⌜ k < 8 ⌝ }
     ensures { λ r. ⌜ r ≡ without s k ⌝ }
 {
-    s & !(1u8 << k)
+    word::remove(s as u64, k as usize) as u8
 }
 
 // How many members the set has.

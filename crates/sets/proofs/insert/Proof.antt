@@ -1,14 +1,16 @@
 use borrow.Author.Needs.{needs}
-use Rattle.sets.specs.Set.{with}
-use Rattle.sets.proofs.Laws.{one-shl, with-or}
+use Rattle.sets.proofs.Laws.{with-lt}
 use Rattle.sets.proofs.insert.Statement.{statement}
 use Rattle.sets.proofs.insert.Tie as tie
 
-shl-result : tie.Need-shl-result
-shl-result c = search needs
+insert-requires : tie.Need-insert-requires
+insert-requires c κs = search needs
+
+cast-result : tie.Need-cast-result
+cast-result c = rw (c .insert .ensures) (record { fits = with-lt 8 (c .before .args .s) (c .before .args .k) (c .before .pre) (c .before .fits .s .fits) })
 
 returns : tie.Need-returns
-returns c = rw (one-shl 8 (c .args .k) (c .pre), with-or (c .args .s) (c .args .k))
+returns c = search needs
 
 pub insert-spec : {M : Type 1} → statement M
-insert-spec = tie.close (tie.spec shl-result returns)
+insert-spec = tie.close (tie.spec insert-requires cast-result returns)

@@ -1,14 +1,16 @@
 use borrow.Author.Needs.{needs}
-use Rattle.sets.specs.Set.{without}
-use Rattle.sets.proofs.Laws.{one-shl, without-and}
+use Rattle.sets.proofs.Laws.{without-lt}
 use Rattle.sets.proofs.remove.Statement.{statement}
 use Rattle.sets.proofs.remove.Tie as tie
 
-shl-result : tie.Need-shl-result
-shl-result c = search needs
+remove-requires : tie.Need-remove-requires
+remove-requires c κs = search needs
+
+cast-result : tie.Need-cast-result
+cast-result c = rw (c .remove .ensures) (record { fits = without-lt 8 (c .before .args .s) (c .before .args .k) (c .before .fits .s .fits) })
 
 returns : tie.Need-returns
-returns c = rw (one-shl 8 (c .args .k) (c .pre), without-and 8 (c .args .s) (c .args .k) (c .fits .s .fits) (c .pre))
+returns c = search needs
 
 pub remove-spec : {M : Type 1} → statement M
-remove-spec = tie.close (tie.spec shl-result returns)
+remove-spec = tie.close (tie.spec remove-requires cast-result returns)
