@@ -1,0 +1,4 @@
+pub mod Little
+pub mod Steps
+pub mod Readings
+pub mod Written
