@@ -1,0 +1,15 @@
+pub mod Accepted
+pub mod Runs
+pub mod Spans
+pub mod Records
+pub mod Sizes
+pub mod Holders
+pub mod Seats
+pub mod Host
+pub mod Watch
+pub mod Marks
+pub mod Guest
+pub mod Waiting
+pub mod Converted
+pub mod Blocked
+pub mod Alive

@@ -1,0 +1,4 @@
+pub mod Reckoned
+pub mod Holders
+pub mod Translations
+pub mod Waiting
