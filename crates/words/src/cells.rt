@@ -13,14 +13,14 @@ fn size(s: &[u32]) -> usize
 
 // A lent slice of words: each is below 2^32.
 fn all_small(s: &[u32]) -> usize
-    ensures { λ r. ⌜ Numbers (length (now (s .entry))) (2 ^ 32) (now (s .entry)) ⌝ }
+    ensures { λ r. ⌜ (r ≡ length (now (s .entry))) × Numbers (length (now (s .entry))) (2 ^ 32) (now (s .entry)) ⌝ }
 {
     size(s)
 }
 
-// The lent words are 426 numbers below 2^32.
+// The lent words are 426 numbers below 2^32; there are as many.
 pub fn known(l: &[u32; 426]) -> usize
-    ensures { λ r. ⌜ Numbers 426 (2 ^ 32) (now (l .entry)) ⌝ }
+    ensures { λ r. ⌜ (r ≡ 426) × Numbers 426 (2 ^ 32) (now (l .entry)) ⌝ }
 {
     all_small(l)
 }

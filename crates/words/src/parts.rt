@@ -93,11 +93,11 @@ pub fn set_fence(l: &mut [u32; 426], k: u64, t: TvmTracker)
 }
 
 // A fence with the vCPUs that are made from now on.
-pub fn set_made(l: &mut [u32; 426], k: u64, t: TvmTracker, made: u8)
+pub fn set_made(l: &mut [u32; 426], k: u64, t: TvmTracker, vcpus: u8)
     requires { ⌜ k < 16 ⌝ }
-    ensures { λ _. ⌜ view (now (l .exit)) ≡ withSlot k (slotWith (view (now (l .entry)) .slot k .phase) (tvmOf t) (bits made) (view (now (l .entry)) .slot k .region)) (view (now (l .entry))) ⌝ }
+    ensures { λ _. ⌜ view (now (l .exit)) ≡ withSlot k (slotWith (view (now (l .entry)) .slot k .phase) (tvmOf t) (bits vcpus) (view (now (l .entry)) .slot k .region)) (view (now (l .entry))) ⌝ }
 {
-    put(l, FENCES + k as usize, pack(t.version.0, t.awaited, made));
+    put(l, FENCES + k as usize, pack(t.version.0, t.awaited, vcpus));
 }
 
 pub fn phase(l: &[u32; 426], k: u64) -> u32

@@ -14,7 +14,7 @@ element-write-l : tie.Need-element-write-l
 element-write-l c = search needs
 
 returns : tie.Need-returns
-returns c = let x = c .before .before .args in store (x .l .now) (x .i) (x .v) (omega (arith, c .known .ensures .size))
+returns c = let x = c .before .before .args in store (x .l .now) (x .i) (x .v) (omega (arith, c .known .ensures .1 .size))
 
 pub put-spec : {M : Type 1} → statement M
 put-spec = tie.close (tie.spec known-requires mul-l element-write-l returns)
