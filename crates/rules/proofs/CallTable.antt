@@ -116,11 +116,17 @@ all-few : few calls ≡ true
 unfolding few
 all-few = refl
 
-pub no-role : (n i : ℕ) → 6 ≤ i → roleAt n i ≡ 0
-unfolding roleAt entryOf few
-no-role n i h = List·getD-eq-default (map code (find n calls .arguments)) 0 {n = i} (at-most calls all-few)
+pub few-named : (n : ℕ) → length (entryOf n .arguments) ≤ 6
+unfolding entryOf few
+few-named n = at-most calls all-few
   where
-    at-most : (es : List Entry) → few es ≡ true → length (map code (find n es .arguments)) ≤ i
+    at-most : (es : List Entry) → few es ≡ true → length (find n es .arguments) ≤ 6
     at-most [] f = omega arith
-    at-most (e ∷ es) f = by-test (eqb n (e .number)) (λ q. rw (q, length-map) (omega (arith, leb-true (length (e .arguments)) 6 (and-left (leb (length (e .arguments)) 6) (few es) f))))
+    at-most (e ∷ es) f =
+        by-test (eqb n (e .number))
+        (λ q. rw q (leb-true (length (e .arguments)) 6 (and-left (leb (length (e .arguments)) 6) (few es) f)))
         (λ q. rw q (at-most es (and-right (leb (length (e .arguments)) 6) (few es) f)))
+
+pub no-role : (n i : ℕ) → 6 ≤ i → roleAt n i ≡ 0
+unfolding roleAt
+no-role n i h = List·getD-eq-default (map code (entryOf n .arguments)) 0 {n = i} (omega (arith, length-map (entryOf n .arguments) code, few-named n))

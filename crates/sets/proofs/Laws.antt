@@ -112,5 +112,8 @@ without-lt n s k h = go (member k s)
     go true = omega arith
     go false = h
 
+pub member-past : (n k s : ℕ) → s < 2 ^ n → n ≤ k → member k s ≡ false
+member-past n k s h l = member-is k s ∙ ap (λ (x : ℕ). eqb x 1) (bit-past n k s h l)
+
 pub member-none : (k : ℕ) → member k 0 ≡ false
-member-none k = member-is k 0 ∙ ap (λ (x : ℕ). eqb x 1) (bit-past 0 k 0 (omega arith) (omega arith))
+member-none k = member-past 0 k 0 (omega arith) (omega arith)
