@@ -10,25 +10,18 @@ ghost use Rattle.rules.specs.Ledger.{isOpen};
 ghost use Rattle.rules.specs.Refusals as n;
 ghost use Rattle.rules.specs.Encoding.{view, pagesOf};
 ghost use Rattle.ledger.specs.Asked.{Asked, longBy};
+use super::roles::COUNT;
+use super::roles::HARTS;
+use super::roles::LENGTH;
+use super::roles::PAGES;
+use super::roles::TVM;
+use super::roles::TYPE;
+use super::roles::VCPU;
 use rules::Call;
 use rules::tables::is_lawful;
 use rules::tables::is_unknown;
 use words::parts;
 use words::sizes;
-
-const TVM: usize = 1;
-
-const VCPU: usize = 2;
-
-const COUNT: usize = 6;
-
-const TYPE: usize = 7;
-
-const LENGTH: usize = 9;
-
-const HARTS: usize = 10;
-
-const PAGES: usize = 11;
 
 // The call names an argument of the role.
 pub fn names(a: &[u64; 12], role: usize) -> bool

@@ -4,10 +4,9 @@ ghost use Rattle.rules.specs.Fence.{someone};
 ghost use Rattle.rules.specs.Refusals as n;
 ghost use Rattle.rules.specs.Encoding.{view, pagesOf, bits};
 ghost use Rattle.ledger.specs.Asked.{Asked};
+use super::roles::TVM;
 use rules::Call;
 use words::parts;
-
-const TVM: usize = 1;
 
 fn is_awaited(awaited: u8) -> bool
     ensures { λ r. ⌜ r ≡ someone (bits awaited) ⌝ }

@@ -5,4 +5,5 @@ mod early;
 mod fencing;
 mod places;
 mod presence;
+mod roles;
 mod room;

@@ -10,24 +10,17 @@ ghost use Rattle.rules.specs.Encoding.{view, pagesOf};
 ghost use Rattle.ledger.specs.Asked.{Asked};
 ghost use Rattle.ledger.specs.Places.{misplacedBy, pastGuest, sizeBy};
 use super::early::names;
+use super::roles::COUNT;
+use super::roles::DIRECTORY;
+use super::roles::FREE;
+use super::roles::GUEST;
+use super::roles::HOST;
+use super::roles::LENGTH;
+use super::roles::TYPE;
 use rules::Call;
 use words::sizes;
 
 const MEMORY: u64 = 0x80000000;
-
-const HOST: usize = 3;
-
-const FREE: usize = 4;
-
-const DIRECTORY: usize = 5;
-
-const COUNT: usize = 6;
-
-const TYPE: usize = 7;
-
-const GUEST: usize = 8;
-
-const LENGTH: usize = 9;
 
 // The pages of a unit.
 fn unit_of(kind: u64) -> u64

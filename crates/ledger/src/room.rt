@@ -5,10 +5,9 @@ ghost use Rattle.rules.specs.Refusals as n;
 ghost use Rattle.rules.specs.Encoding.{view, pagesOf};
 ghost use Rattle.ledger.specs.Asked.{Asked};
 ghost use Rattle.ledger.specs.Room.{takeableAt, unusedAt};
+use super::roles::TVM;
 use rules::Call;
 use words::parts;
-
-const TVM: usize = 1;
 
 fn is_takeable(l: &[u32; 426], k: u64) -> bool
     ensures { λ r. ⌜ r ≡ takeableAt (view (now (l .entry))) k ⌝ }
