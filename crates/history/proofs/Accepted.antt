@@ -45,30 +45,6 @@ pub record ByCall (P : ℕ → Type 0) : Type 0 where
   pub leave : P 32
   pub open-ledger : P 33
 
--- two proofs for each call make a third
-pub join : {P Q R : ℕ → Type 0} → ((n : ℕ) → P n → Q n → R n) → ByCall P → ByCall Q → ByCall R
-join f p q = record {
-  convert = f 1 (p .convert) (q .convert);
-  reclaim = f 2 (p .reclaim) (q .reclaim);
-  global-fence = f 3 (p .global-fence) (q .global-fence);
-  local-fence = f 4 (p .local-fence) (q .local-fence);
-  create = f 5 (p .create) (q .create);
-  finalize = f 6 (p .finalize) (q .finalize);
-  destroy = f 8 (p .destroy) (q .destroy);
-  region = f 9 (p .region) (q .region);
-  pool = f 10 (p .pool) (q .pool);
-  measured = f 11 (p .measured) (q .measured);
-  zeros = f 12 (p .zeros) (q .zeros);
-  vcpu = f 14 (p .vcpu) (q .vcpu);
-  enter = f 15 (p .enter) (q .enter);
-  tvm-fence = f 16 (p .tvm-fence) (q .tvm-fence);
-  invalidate = f 17 (p .invalidate) (q .invalidate);
-  validate = f 18 (p .validate) (q .validate);
-  remove = f 19 (p .remove) (q .remove);
-  leave = f 32 (p .leave) (q .leave);
-  open-ledger = f 33 (p .open-ledger) (q .open-ledger);
-}
-
 module _ (P : ℕ → Type 0) where
   abbrev Each : List Entry → Type 0
   Each [] = Unit
@@ -82,7 +58,11 @@ module _ (P : ℕ → Type 0) where
       go true q f r = subst P (sym (eqb-true n (x .number) q)) (p .0)
       go false q f r = r f
 
-  pub by-call : ByCall P → (n : ℕ) → eqb (entryOf n .number) 0 ≡ false → P n
+  -- a proof for every number that is a call's
+  abbrev pub Every : Type 0
+  Every = (n : ℕ) → eqb (entryOf n .number) 0 ≡ false → P n
+
+  pub by-call : ByCall P → Every
   unfolding entryOf
   by-call k = each calls (
     k .convert,

@@ -23,7 +23,7 @@ use Rattle.rules.specs.Effects.{table, ledger, value, writes, written, entered,
 use Rattle.rules.specs.Step.{unopened}
 use Rattle.history.specs.Reckoned.{after, Seats, nowhere, seats}
 use Rattle.history.specs.Translations.{GuestView, flushed, mayFill, guestTurn, guests, GuestSafe}
-use Rattle.history.proofs.Accepted.{call, ByCall, join, Passed, as-wanted, none-inside, at-number}
+use Rattle.history.proofs.Accepted.{call, ByCall, by-call, Passed, as-wanted, none-inside, at-number}
 use Rattle.history.proofs.Runs.{EachKeeps, kept}
 use Rattle.history.proofs.Spans.{isOf, free-counts, host-ordinary, at-guest, Meant, meant-is, put-field}
 use Rattle.history.proofs.Records.{claim, word-page, free-unmapped}
@@ -354,9 +354,8 @@ lefts X l t c s = record {
 }
 
 keep : EachKeeps guestTurn I
-keep X l t c s =
-    let rest : ByCall (λ n. Passed l t (call n c) → MarksIn (ledger l t (call n c)) × Left X l t c s (call n c)) = join (λ n b o q. (b q, o q)) (marks-kept l t c (s .marked)) (lefts X l t c s) in
-    join (λ n h b q. one X l t c s (call n c) (h q) (b q .0) (b q .1)) (seats-kept (X .seats) l t c (s .sits)) rest
+keep X l t c s n b q =
+    one X l t c s (call n c) (seats-kept (X .seats) l t c (s .sits) n b q) (by-call _ (marks-kept l t c (s .marked)) n b q) (by-call _ (lefts X l t c s) n b q)
 
 pub guest-safe : GuestSafe
 guest-safe t cs j k g p e i = (whole .safe j k g p e .1, go (whole .safe j k g p e .2))

@@ -23,7 +23,7 @@ use Rattle.rules.specs.Effects.{table, ledger, writes, written, mapping}
 use Rattle.rules.specs.Step.{unopened}
 use Rattle.history.specs.Reckoned.{after}
 use Rattle.history.specs.Holders.{Held, nobody, holds, maps, isHeldBy, isGivenAt, isGiving, gives, given, takesBack, holding, held, HoldersAgree, GivenUnheld, OneClaim}
-use Rattle.history.proofs.Accepted.{call, Passed, guest-ends, at-number}
+use Rattle.history.proofs.Accepted.{call, by-call, Passed, guest-ends, at-number}
 use Rattle.history.proofs.Runs.{Keeps, EachKeeps, kept, accepted}
 use Rattle.history.proofs.Spans.{in-range, isOf, free-below, free-counts, host-ordinary, at-guest, meant-is}
 use Rattle.history.proofs.Records.{heldOf, heldAt, held-0, held-free, mapped-given, holder-is, mapped-in, claim, claims-held, held-claims, word-page}
@@ -218,7 +218,7 @@ module _ (H : ℕ → Held) (l : Ledger) (t : Table) (c : Call) (s : I H l t) wh
 
 keep : EachKeeps holding I
 unfolding at-number holding gives given takesBack
-keep H l t c s = record {
+keep H l t c s = by-call _ (record {
   convert = λ p. leaves-held H l t c s (writes l t (call 1 c)) (written l t (call 1 c)) (λ i w. sym (held-0 (t .page i) (host-ordinary l t (call 1 c) p i w)));
   reclaim = λ p. leaves-held H l t c s (writes l t (call 2 c)) (written l t (call 2 c)) (λ i w. sym (free-nobody H l t c s (call 2 c) p i w));
   global-fence = λ p. s;
@@ -245,7 +245,7 @@ keep H l t c s = record {
       (λ i b. mapped-in (c .a0) (firstGuest d) (size d) (t .page i) ∙ meant-all H l t c s (c .a0) (firstGuest d) (size d) i b);
   leave = λ p. s;
   open-ledger = by33 H l t c s;
-}
+})
 
 -- ---- the theorems
 whole : (t : Table) (cs : List Call) → I (held t cs) (after t cs .ledger) (after t cs .table)

@@ -21,7 +21,7 @@ use Rattle.rules.specs.Step.{unopened}
 use Rattle.history.specs.Reckoned.{after, Seats, nowhere, seats}
 use Rattle.history.specs.Holders.{countsFree}
 use Rattle.history.specs.Translations.{HostView, mayLoad, drops, hostTurn, hosts, HostSafe}
-use Rattle.history.proofs.Accepted.{call, ByCall, join, Passed, at-number}
+use Rattle.history.proofs.Accepted.{call, ByCall, by-call, Passed, at-number}
 use Rattle.history.proofs.Runs.{EachKeeps, kept}
 use Rattle.history.proofs.Spans.{isOf, free-counts, meant-is}
 use Rattle.history.proofs.Records.{claim, mapped-given}
@@ -162,7 +162,7 @@ lefts M l t c s = record {
     on d = on-writes M l t c s (writes l t d) (written l t d)
 
 keep : EachKeeps hostTurn I
-keep M l t c s = join (λ n h o q. one M l t c s (call n c) (h q) (o q)) (seats-kept (M .seats) l t c (s .seated)) (lefts M l t c s)
+keep M l t c s n b q = one M l t c s (call n c) (seats-kept (M .seats) l t c (s .seated) n b q) (by-call _ (lefts M l t c s) n b q)
 
 pub host-safe : HostSafe
 host-safe t cs j p e = (

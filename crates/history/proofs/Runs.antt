@@ -13,7 +13,7 @@ use Rattle.rules.specs.Refusals.{refusal, refuses1}
 use Rattle.rules.specs.Effects.{table, ledger, value}
 use Rattle.rules.specs.Step.{State, Outcome, settle, step, run}
 use Rattle.history.specs.Reckoned.{heed, reckon}
-use Rattle.history.proofs.Accepted.{call, ByCall, by-call, Passed, passed}
+use Rattle.history.proofs.Accepted.{call, Every, Passed, passed}
 
 module _ {G : Type 0} (f : Call → ℕ → Table → G → G) (I : G → Ledger → Table → Type 0) where
   -- an accepted call c keeps I
@@ -21,7 +21,7 @@ module _ {G : Type 0} (f : Call → ℕ → Table → G → G) (I : G → Ledger
   Keeps g l t c = Passed l t c → I (f c (value l t c) (table l t c) g) (ledger l t c) (table l t c)
 
   abbrev pub EachKeeps : Type 0
-  EachKeeps = (g : G) (l : Ledger) (t : Table) (c : Call) → I g l t → ByCall (λ n. Keeps g l t (call n c))
+  EachKeeps = (g : G) (l : Ledger) (t : Table) (c : Call) → I g l t → Every (λ n. Keeps g l t (call n c))
 
   module _ (keep : EachKeeps) where
     settled : (g : G) (s : State) (c : Call) → I g (s .ledger) (s .table) → (k : ℕ) → refusal (s .ledger) (s .table) c ≡ k
@@ -29,7 +29,7 @@ module _ {G : Type 0} (f : Call → ℕ → Table → G → G) (I : G → Ledger
     unfolding refuses1
     settled g s c i zero e =
         let p = passed (s .ledger) (s .table) c e in
-        by-call (λ n. Keeps g (s .ledger) (s .table) (call n c)) (keep g (s .ledger) (s .table) c i) (c .number) (p .p1) p
+        keep g (s .ledger) (s .table) c i (c .number) (p .p1) p
     settled g s c i (suc k) e = i
 
     -- one call, and all of them

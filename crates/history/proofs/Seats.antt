@@ -14,7 +14,7 @@ use Rattle.rules.specs.declared.Answer.the-variants.{Accepted}
 use Rattle.history.specs.Reckoned.{after, heed, Seats, nowhere, seats, seated}
 use Rattle.rules.specs.Ledger.{Ledger, isOpen, Hart, outside}
 use Rattle.rules.specs.Effects.{ledger, entered}
-use Rattle.history.proofs.Accepted.{call, ByCall, Passed, opened-before, not-again, hart-counted, at-number}
+use Rattle.history.proofs.Accepted.{call, Every, by-call, Passed, opened-before, not-again, hart-counted, at-number}
 use Rattle.history.proofs.Runs.{kept, kept-by}
 use Rattle.history.proofs.Sizes.{Sizes, shut, now-open}
 
@@ -45,41 +45,54 @@ module _ (x : Seats) (l : Ledger) (t : Table) (c : Call) (s : SeatedIn x l) wher
       past j d true e = let z = eqb-true j (c .hart) e in absurd (omega arith)
       past j d false e = s .none-past j d
 
-  by15 : Passed l t (call 15 c) → SeatedIn (seats (call 15 c) x) (ledger l t (call 15 c))
-  unfolding at-number seats
-  by15 p = moves-to (entered l t (call 15 c) (l .hart (c .hart))) (leb-false (l .harts) (c .hart) (hart-counted l t (call 15 c) p))
+  -- a call keeps the seats true, and a ledger open
+  abbrev Kept : Call → Type 0
+  Kept d = Passed l t d → SeatedIn (seats d x) (ledger l t d) × (isOpen l ≡ true → isOpen (ledger l t d) ≡ true)
 
-  by32 : Passed l t (call 32 c) → SeatedIn (seats (call 32 c) x) (ledger l t (call 32 c))
+  by15 : Kept (call 15 c)
   unfolding at-number seats
-  by32 p = moves-to (record { place = outside; mark = l .hart (c .hart) .mark }) (leb-false (l .harts) (c .hart) (hart-counted l t (call 32 c) p))
+  by15 p = (moves-to (entered l t (call 15 c) (l .hart (c .hart))) (leb-false (l .harts) (c .hart) (hart-counted l t (call 15 c) p)), λ o. o)
 
-  by33 : Passed l t (call 33 c) → SeatedIn (seats (call 33 c) x) (ledger l t (call 33 c))
+  by32 : Kept (call 32 c)
   unfolding at-number seats
-  by33 p = record { sizes = now-open l t c p; harts-are = refl; pages-are = refl; places-are = λ j. refl; none-past = λ j b. refl }
+  by32 p = (moves-to (record { place = outside; mark = l .hart (c .hart) .mark }) (leb-false (l .harts) (c .hart) (hart-counted l t (call 32 c) p)), λ o. o)
 
-  pub seats-kept : ByCall (λ n. Passed l t (call n c) → SeatedIn (seats (call n c) x) (ledger l t (call n c)))
+  by33 : Kept (call 33 c)
   unfolding at-number seats
-  seats-kept = record {
-    convert = λ p. s;
-    reclaim = λ p. s;
-    global-fence = λ p. s;
-    local-fence = λ p. s;
-    create = λ p. s;
-    finalize = λ p. s;
-    destroy = λ p. s;
-    region = λ p. s;
-    pool = λ p. s;
-    measured = λ p. s;
-    zeros = λ p. s;
-    vcpu = λ p. s;
+  by33 p = (
+    record { sizes = now-open l t c p; harts-are = refl; pages-are = refl; places-are = λ j. refl; none-past = λ j b. refl },
+    λ o. absurd (true≢false (sym o ∙ not-again l t (call 33 c) p)),
+  )
+
+  each-kept : Every (λ n. Kept (call n c))
+  unfolding at-number seats
+  each-kept = by-call (λ n. Kept (call n c)) (record {
+    convert = λ p. (s, λ o. o);
+    reclaim = λ p. (s, λ o. o);
+    global-fence = λ p. (s, λ o. o);
+    local-fence = λ p. (s, λ o. o);
+    create = λ p. (s, λ o. o);
+    finalize = λ p. (s, λ o. o);
+    destroy = λ p. (s, λ o. o);
+    region = λ p. (s, λ o. o);
+    pool = λ p. (s, λ o. o);
+    measured = λ p. (s, λ o. o);
+    zeros = λ p. (s, λ o. o);
+    vcpu = λ p. (s, λ o. o);
     enter = by15;
-    tvm-fence = λ p. s;
-    invalidate = λ p. s;
-    validate = λ p. s;
-    remove = λ p. s;
+    tvm-fence = λ p. (s, λ o. o);
+    invalidate = λ p. (s, λ o. o);
+    validate = λ p. (s, λ o. o);
+    remove = λ p. (s, λ o. o);
     leave = by32;
     open-ledger = by33;
-  }
+  })
+
+  pub seats-kept : Every (λ n. Passed l t (call n c) → SeatedIn (seats (call n c) x) (ledger l t (call n c)))
+  seats-kept n b p = each-kept n b p .0
+
+  pub open-kept : Every (λ n. Passed l t (call n c) → isOpen l ≡ true → isOpen (ledger l t (call n c)) ≡ true)
+  open-kept n b p = each-kept n b p .1
 
 -- over a history, and one call more
 pub seated-after : (t : Table) (cs : List Call) → SeatedIn (seated t cs) (after t cs .ledger)
@@ -93,27 +106,3 @@ pub seated-then : (t : Table) (cs : List Call) (c : Call) (v : ℕ) → step (af
 seated-then t cs c v a =
     subst (λ x. SeatedIn (heed (λ c v t x. seats c x) c x (step (after t cs) c .after .table) (seated t cs)) (step (after t cs) c .after .ledger)) a
     (kept-by (λ c v t x. seats c x) (λ x l t. SeatedIn x l) (λ x l t c s. seats-kept x l t c s) (seated t cs) (after t cs) c (seated-after t cs))
-
-pub open-kept : (l : Ledger) (t : Table) (c : Call) → isOpen l ≡ true → ByCall (λ n. Passed l t (call n c) → isOpen (ledger l t (call n c)) ≡ true)
-unfolding at-number
-open-kept l t c o = record {
-  convert = λ p. o;
-  reclaim = λ p. o;
-  global-fence = λ p. o;
-  local-fence = λ p. o;
-  create = λ p. o;
-  finalize = λ p. o;
-  destroy = λ p. o;
-  region = λ p. o;
-  pool = λ p. o;
-  measured = λ p. o;
-  zeros = λ p. o;
-  vcpu = λ p. o;
-  enter = λ p. o;
-  tvm-fence = λ p. o;
-  invalidate = λ p. o;
-  validate = λ p. o;
-  remove = λ p. o;
-  leave = λ p. o;
-  open-ledger = λ p. absurd (true≢false (sym o ∙ not-again l t (call 33 c) p));
-}

@@ -16,7 +16,7 @@ use Rattle.rules.specs.Effects.{table, ledger, value, writes, written}
 use Rattle.rules.specs.Step.{step}
 use Rattle.history.specs.Reckoned.{after, seats, seated}
 use Rattle.history.specs.Waiting.{Fencing, Watch, watching, Turned, later, watch, Waits}
-use Rattle.history.proofs.Accepted.{call, ByCall, join, Passed}
+use Rattle.history.proofs.Accepted.{call, ByCall, by-call, Passed}
 use Rattle.history.proofs.Runs.{EachKeeps, kept}
 use Rattle.history.proofs.Seats.{SeatedIn, seats-kept, open-kept, seated-then}
 use Rattle.history.proofs.Watch.{Inv, inv-done, unwritten}
@@ -75,10 +75,8 @@ module _ (f : Fencing) (fence : Ledger → Tracker) (m p k r : ℕ) where
 
   module _ (fates : EachFate) where
     keep : EachKeeps (watching f m p) I
-    keep w l t c s =
-        let open-fate : ByCall (λ n. Passed l t (call n c) → (isOpen (ledger l t (call n c)) ≡ true) × Fate w l t (call n c))
-        = join (λ n o e q. (o q, e q)) (open-kept l t c (s .is-open)) (fates w l t c s) in
-        join (λ n h g q. one w l t (call n c) s (h q) (g q .0) (g q .1)) (seats-kept (w .seats) l t c (s .sits)) open-fate
+    keep w l t c s n b q =
+        one w l t (call n c) s (seats-kept (w .seats) l t c (s .sits) n b q) (open-kept (w .seats) l t c (s .sits) n b q (s .is-open)) (by-call _ (fates w l t c s) n b q)
 
     pub waits : (t : Table) (cs : List Call) (c : Call) (ds : List Call) → Turned m t cs c p → isOpen (step (after t cs) c .after .ledger) ≡ true
         → Live m k r (fence (step (after t cs) c .after .ledger)) false (λ j. false) (step (after t cs) c .after .table .page p) → Waits f fence m t cs c p ds
