@@ -39,7 +39,7 @@ impl Target {
 
 /// What calls 17 to 19 do to a mapped page.
 #[derive(Clone, Copy)]
-enum Change {
+pub(super) enum Change {
     Invalidate,
     Validate,
     Remove,
@@ -101,45 +101,9 @@ impl Ledger {
         Ok(0)
     }
 
-    /// Call 17.
-    pub(super) fn invalidate(
-        &mut self,
-        records: Records,
-        hart: HartId,
-        slot: SlotId,
-        guest: u64,
-        length: u64,
-    ) -> Outcome {
-        self.change(records, hart, slot, Change::Invalidate, guest, length)
-    }
-
-    /// Call 18.
-    pub(super) fn validate(
-        &mut self,
-        records: Records,
-        hart: HartId,
-        slot: SlotId,
-        guest: u64,
-        length: u64,
-    ) -> Outcome {
-        self.change(records, hart, slot, Change::Validate, guest, length)
-    }
-
-    /// Call 19.
-    pub(super) fn remove(
-        &mut self,
-        records: Records,
-        hart: HartId,
-        slot: SlotId,
-        guest: u64,
-        length: u64,
-    ) -> Outcome {
-        self.change(records, hart, slot, Change::Remove, guest, length)
-    }
-
     /// Calls 17 to 19. The table is passed once to find the records meant, and
     /// then the range twice, to check and to write.
-    fn change(
+    pub(super) fn change(
         &mut self,
         mut records: Records,
         hart: HartId,

@@ -16,6 +16,7 @@ use crate::range::MAX_PAGES;
 use crate::records::Records;
 use crate::refusal::Refusal;
 use crate::slot::{Phase, Slot};
+use mapping::Change;
 
 /// Either the value of an accepted call or the reason for its refusal.
 type Outcome = Result<u64, Refusal>;
@@ -130,9 +131,9 @@ impl Ledger {
             TvmCall::Vcpu => self.vcpu(records, hart, slot, a1, a2),
             TvmCall::Enter => self.enter(hart, slot, a1),
             TvmCall::Fence => self.tvm_fence(hart, slot),
-            TvmCall::Invalidate => self.invalidate(records, hart, slot, a1, a2),
-            TvmCall::Validate => self.validate(records, hart, slot, a1, a2),
-            TvmCall::Remove => self.remove(records, hart, slot, a1, a2),
+            TvmCall::Invalidate => self.change(records, hart, slot, Change::Invalidate, a1, a2),
+            TvmCall::Validate => self.change(records, hart, slot, Change::Validate, a1, a2),
+            TvmCall::Remove => self.change(records, hart, slot, Change::Remove, a1, a2),
         }
     }
 
