@@ -14,7 +14,7 @@ use Rattle.history.specs.Reckoned.{reckon, seats}
 use Rattle.history.specs.Holders.{nobody, holds, maps, gives, given, takesBack, holding, held}
 use Rattle.history.specs.Translations.{hostTurn, hosts, guestTurn, guests}
 use Rattle.history.specs.Waiting.{Watch, globally, forTvm, watching, Turned, watch}
-use Rattle.history.proofs.Accepted.{at-number}
+use Rattle.rules.proofs.Accepted.{at-number}
 
 -- sixteen records of no kind, which open makes ordinary
 abbrev lent : Table

@@ -19,7 +19,7 @@ use Rattle.rules.specs.Effects.{table, ledger, writes, destroyed}
 use Rattle.rules.specs.Step.{State}
 use Rattle.history.specs.Reckoned.{after}
 use Rattle.history.specs.Waiting.{Watch, forTvm, watching, BlockedWaits}
-use Rattle.history.proofs.Accepted.{call, Passed, not-again, as-wanted, at-number}
+use Rattle.rules.proofs.Accepted.{call, Passed, not-again, as-wanted, at-number}
 use Rattle.history.proofs.Runs.{accepted}
 use Rattle.history.proofs.Spans.{at-guest, meant-is, put-field}
 use Rattle.history.proofs.Seats.{open-then}

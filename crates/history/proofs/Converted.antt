@@ -17,7 +17,7 @@ use Rattle.rules.specs.Effects.{table, ledger, writes}
 use Rattle.rules.specs.Step.{State}
 use Rattle.history.specs.Reckoned.{after}
 use Rattle.history.specs.Waiting.{Watch, globally, watching, ConvertedWaits}
-use Rattle.history.proofs.Accepted.{call, Passed, not-again, at-number}
+use Rattle.rules.proofs.Accepted.{call, Passed, not-again, at-number}
 use Rattle.history.proofs.Runs.{accepted}
 use Rattle.history.proofs.Spans.{host-ordinary}
 use Rattle.history.proofs.Seats.{open-then}

@@ -23,7 +23,7 @@ use Rattle.rules.specs.Effects.{table, ledger, value, writes, written, entered,
 use Rattle.rules.specs.Step.{unopened}
 use Rattle.history.specs.Reckoned.{after, Seats, nowhere, seats}
 use Rattle.history.specs.Translations.{GuestView, flushed, mayFill, guestTurn, guests, GuestSafe}
-use Rattle.history.proofs.Accepted.{call, ByCall, by-call, Passed, as-wanted, none-inside, at-number}
+use Rattle.rules.proofs.Accepted.{call, ByCall, by-call, Passed, as-wanted, none-inside, at-number}
 use Rattle.history.proofs.Runs.{EachKeeps, kept}
 use Rattle.history.proofs.Spans.{isOf, free-counts, host-ordinary, at-guest, Meant, meant-is, put-field}
 use Rattle.history.proofs.Records.{claim, word-page, free-unmapped}

@@ -23,7 +23,7 @@ use Rattle.rules.specs.Effects.{table, ledger, writes, written, mapping}
 use Rattle.rules.specs.Step.{unopened}
 use Rattle.history.specs.Reckoned.{after}
 use Rattle.history.specs.Holders.{Held, nobody, holds, maps, isHeldBy, isGivenAt, isGiving, gives, given, takesBack, holding, held, HoldersAgree, GivenUnheld, OneClaim}
-use Rattle.history.proofs.Accepted.{call, by-call, Passed, guest-ends, at-number}
+use Rattle.rules.proofs.Accepted.{call, by-call, Passed, guest-ends, at-number}
 use Rattle.history.proofs.Runs.{Keeps, EachKeeps, kept, accepted}
 use Rattle.history.proofs.Spans.{in-range, isOf, free-below, free-counts, host-ordinary, at-guest, meant-is}
 use Rattle.history.proofs.Records.{heldOf, heldAt, held-0, held-free, mapped-given, holder-is, mapped-in, claim, claims-held, held-claims, word-page}

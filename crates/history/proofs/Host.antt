@@ -21,7 +21,7 @@ use Rattle.rules.specs.Step.{unopened}
 use Rattle.history.specs.Reckoned.{after, Seats, nowhere, seats}
 use Rattle.history.specs.Holders.{countsFree}
 use Rattle.history.specs.Translations.{HostView, mayLoad, drops, hostTurn, hosts, HostSafe}
-use Rattle.history.proofs.Accepted.{call, ByCall, by-call, Passed, at-number}
+use Rattle.rules.proofs.Accepted.{call, ByCall, by-call, Passed, at-number}
 use Rattle.history.proofs.Runs.{EachKeeps, kept}
 use Rattle.history.proofs.Spans.{isOf, free-counts, meant-is}
 use Rattle.history.proofs.Records.{claim, mapped-given}

@@ -1,4 +1,3 @@
-pub mod Accepted
 pub mod Runs
 pub mod Spans
 pub mod Records

@@ -18,7 +18,7 @@ use Rattle.rules.specs.Fence.{Tracker, begin, strike}
 use Rattle.rules.specs.Ledger.{Ledger, Slot, Hart, Place, inside, outside, isInSlot, isOutside, slotOf, insidersOf, withFence, flushes, start, bare}
 use Rattle.rules.specs.Refusals.{takeable, taken}
 use Rattle.rules.specs.Effects.{ledger, entered, destroyed}
-use Rattle.history.proofs.Accepted.{call, ByCall, Passed, comes-from-outside, at-number}
+use Rattle.rules.proofs.Accepted.{call, ByCall, Passed, comes-from-outside, at-number}
 use Rattle.history.proofs.Spans.{put-field}
 
 pub record Marks (slot : ℕ → Slot) (hart : ℕ → Hart) : Type 0 where

@@ -14,7 +14,7 @@ use Rattle.rules.specs.declared.Answer.the-variants.{Accepted}
 use Rattle.history.specs.Reckoned.{after, heed, Seats, nowhere, seats, seated}
 use Rattle.rules.specs.Ledger.{Ledger, isOpen, Hart, outside}
 use Rattle.rules.specs.Effects.{ledger, entered}
-use Rattle.history.proofs.Accepted.{call, Every, by-call, Passed, opened-before, not-again, hart-counted, at-number}
+use Rattle.rules.proofs.Accepted.{call, Every, by-call, Passed, opened-before, not-again, hart-counted, at-number}
 use Rattle.history.proofs.Runs.{kept, kept-by}
 use Rattle.history.proofs.Sizes.{Sizes, shut, now-open}
 

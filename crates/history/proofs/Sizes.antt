@@ -11,7 +11,7 @@ use Rattle.sets.proofs.Bools.{and-left, and-right}
 use Rattle.rules.specs.declared.Call.{Call}
 use Rattle.rules.specs.Page.{Table, fits}
 use Rattle.rules.specs.Ledger.{Ledger}
-use Rattle.history.proofs.Accepted.{call, Passed, not-again, harts-lawful, pages-lawful, at-number}
+use Rattle.rules.proofs.Accepted.{call, Passed, not-again, harts-lawful, pages-lawful, at-number}
 
 pub data Sizes (harts pages : ℕ) : Type 0 where
   shut : harts ≡ 0 → pages ≡ 0 → Sizes harts pages

@@ -22,7 +22,7 @@ use Rattle.rules.specs.Ledger.{Ledger}
 use Rattle.rules.specs.Calls.{Span, memory, index, freeSpans, hostSpans, size, firstGuest}
 use Rattle.rules.specs.Refusals.{refuses5, refuses6, refuses7, misplaced, anyPage, anyGuest}
 use Rattle.history.specs.Holders.{countsFree}
-use Rattle.history.proofs.Accepted.{Passed}
+use Rattle.rules.proofs.Accepted.{Passed}
 
 -- ---- one of a list
 one-from : (a : Bool) (bs : List Bool) → oneFrom a bs ≡ (a || oneOf bs)

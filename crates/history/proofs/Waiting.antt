@@ -16,7 +16,7 @@ use Rattle.rules.specs.Effects.{table, ledger, value, writes, written}
 use Rattle.rules.specs.Step.{step}
 use Rattle.history.specs.Reckoned.{after, seats, seated}
 use Rattle.history.specs.Waiting.{Fencing, Watch, watching, Turned, later, watch, Waits}
-use Rattle.history.proofs.Accepted.{call, ByCall, by-call, Passed}
+use Rattle.rules.proofs.Accepted.{call, ByCall, by-call, Passed}
 use Rattle.history.proofs.Runs.{EachKeeps, kept}
 use Rattle.history.proofs.Seats.{SeatedIn, seats-kept, open-kept, seated-then}
 use Rattle.history.proofs.Watch.{Inv, inv-done, unwritten}

@@ -1,3 +1,4 @@
+pub mod Accepted
 pub mod CallTable
 pub mod Exactly
 pub mod HartSets
