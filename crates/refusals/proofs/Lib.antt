@@ -1,3 +1,6 @@
 pub mod Named
 pub mod Past
-pub mod Spans
+pub mod Ready
+pub mod Sights
+pub mod Overlaps
+pub mod Seats

@@ -8,7 +8,7 @@ use super::roles::TVM;
 use rules::Call;
 use words::parts;
 
-fn is_awaited(awaited: u8) -> bool
+pub fn is_awaited(awaited: u8) -> bool
     ensures { λ r. ⌜ r ≡ someone (bits awaited) ⌝ }
 {
     awaited != 0

@@ -1,9 +1,13 @@
-// The ledger: words and records that the caller lends. So far the door, which settles what a call asks, and refusals 1 to 5, 8, 9, 13 and 15; they are
-// inner functions of `call`, each one equation with its condition in `rules`.
-mod asked;
+// What a call asks for, and why it is refused. One function a number, each one equation with its condition in `rules`, by `&` only; 6, 7 and 14 come
+// from one look. `refusal` gives the lowest that holds.
+pub mod asked;
+mod claimed;
 mod early;
 mod fencing;
-mod places;
-mod presence;
-mod roles;
-mod room;
+pub mod number;
+pub mod places;
+pub mod presence;
+mod regions;
+pub mod roles;
+pub mod room;
+pub mod sight;

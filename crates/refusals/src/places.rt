@@ -1,14 +1,14 @@
 // Refusal 5: addresses, all reckoned without wrapping. What a call asks for is not refused 4 by then, so its size is known.
 ghost use mathlib.Core.Path.{_≡_};
-ghost use mathlib.Core.Bool.{cond};
-ghost use lib.Dec.{eqb};
-ghost use Prim.Native.Nat.{_*_, _<_, _^_};
+ghost use mathlib.Core.Bool.{cond, not, _&&_, false};
+ghost use lib.Dec.{eqb, ltb};
+ghost use Prim.Native.Nat.{_<_};
 ghost use Rattle.sets.specs.Terms.{within};
 ghost use Rattle.rules.specs.Calls.{size};
 ghost use Rattle.rules.specs.Refusals as n;
 ghost use Rattle.rules.specs.Encoding.{view, pagesOf};
 ghost use Rattle.refusals.specs.Asked.{Asked};
-ghost use Rattle.refusals.specs.Places.{misplacedBy, pastGuest, sizeBy};
+ghost use Rattle.refusals.specs.Places.{Countable, misplacedBy, pastGuest, sizeBy};
 use super::early::names;
 use super::roles::COUNT;
 use super::roles::DIRECTORY;
@@ -31,7 +31,7 @@ fn unit_of(kind: u64) -> u64
 
 // The pages of a range that is measured in bytes, or counted in units, or one page.
 fn pages_of(measured: bool, counted: bool, length: u64, count: u64, kind: u64) -> u64
-    requires { ⌜ sizeBy measured counted length count kind < 2 ^ 64 ⌝ }
+    requires { ⌜ Countable measured counted count kind ⌝ }
     ensures { λ r. ⌜ r ≡ sizeBy measured counted length count kind ⌝ }
 {
     if measured {
@@ -84,7 +84,7 @@ fn in_directory(directory: u64, state: u64) -> bool
 
 // How many pages the call's range has.
 pub fn sized(q: Call, a: &[u64; 12]) -> u64
-    requires { ⌜ Asked q (now a) × (size q < 2 ^ 64) ⌝ }
+    requires { ⌜ Asked q (now a) × ((not (eqb (q .number) 9) && ltb 4096 (size q)) ≡ false) ⌝ }
     ensures { λ r. ⌜ r ≡ size q ⌝ }
 {
     let measured = names(a, LENGTH);

@@ -79,6 +79,19 @@ clear k [] e = tt
 clear k (true ∷ bs) e = absurd (omega arith)
 clear k (false ∷ bs) e = (refl, clear (suc k) bs e)
 
+-- none of the first five, which look at no record
+pub record Early (l : Ledger) (t : Table) (c : Call) : Type 0 where
+  pub e1 : refuses1 l t c ≡ false
+  pub e2 : refuses2 l t c ≡ false
+  pub e3 : refuses3 l t c ≡ false
+  pub e4 : refuses4 l t c ≡ false
+  pub e5 : refuses5 l t c ≡ false
+
+pub not-early : (l : Ledger) (t : Table) (c : Call) → lowestOf 1 (early l t c) ≡ 0 → Early l t c
+not-early l t c e =
+    let q : AllFalse (early l t c) = clear 0 (early l t c) e in
+    record { e1 = q .0; e2 = q .1 .0; e3 = q .1 .1 .0; e4 = q .1 .1 .1 .0; e5 = q .1 .1 .1 .1 .0 }
+
 pub record Passed (l : Ledger) (t : Table) (c : Call) : Type 0 where
   pub p1 : refuses1 l t c ≡ false
   pub p2 : refuses2 l t c ≡ false

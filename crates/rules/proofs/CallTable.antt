@@ -1,17 +1,20 @@
 -- The rule of the constant table of calls, proved once over the whole table: each row's digits are those of the definitions.
 -- Assumes nothing.
 use Prim.Native.Nat.{ℕ, zero, suc, min, _+_, _-_, _*_, _/_, _%_, _^_, _≤_, _<_}
-use mathlib.Core.Bool.{Bool, true, false, cond, not, _&&_}
+use mathlib.Core.Bool.{Bool, true, false, cond, not, _&&_, true≢false}
 use mathlib.Core.List.{List, [], _∷_, map}
-use mathlib.Core.Path.{_≡_, refl, sym, ap}
+use mathlib.Core.Path.{_≡_, refl, sym, _∙_, ap, subst}
 use native.Mathlib.Omega.{arith}
 use lib.Dec.{leb, ltb, eqb}
 use lib.ListN.{length, getD, length-map, List·getD-eq-default}
 use borrow.Author.Tests.{eqb-true, ne-eqb, leb-true, ltb-true}
+use Rattle.sets.specs.Terms.{anyIn}
 use Rattle.sets.specs.Look.{all}
 use Rattle.sets.proofs.Bools.{by-test, and-left, and-right}
 use Rattle.sets.proofs.Looks.{all-at}
-use Rattle.rules.specs.Calls.{Entry, Phases, noPhase, I, R, IR, code, allows, entry, find, calls, entryOf}
+use Rattle.rules.specs.declared.Call.{Call}
+use Rattle.rules.specs.declared.Role.{Role}
+use Rattle.rules.specs.Calls.{names, Entry, Phases, noPhase, I, R, IR, code, allows, entry, find, calls, entryOf}
 use Rattle.rules.specs.Tables.{phaseSet, roleAt, callDigit}
 
 -- the rows of src/tables.rt
@@ -107,25 +110,40 @@ role-digit n i = ap (λ (k : ℕ). callDigit n k) (add-two i)
     add-two : (i : ℕ) → i + 2 ≡ suc (suc i)
     add-two i = omega arith
 
--- no call names more than six
-few : List Entry → Bool
-few [] = true
-few (e ∷ es) = leb (length (e .arguments)) 6 && few es
+-- ---- what holds of every row of the table of calls, and of none
+unfoldable pub each : (Entry → Bool) → List Entry → Bool
+each p [] = true
+each p (e ∷ es) = p e && each p es
 
-all-few : few calls ≡ true
-unfolding few
-all-few = refl
-
-pub few-named : (n : ℕ) → length (entryOf n .arguments) ≤ 6
-unfolding entryOf few
-few-named n = at-most calls all-few
+pub of-table : (p : Entry → Bool) → p (entry 0 [] noPhase) ≡ true → each p calls ≡ true → (n : ℕ) → p (entryOf n) ≡ true
+unfolding entryOf each
+of-table p h f n = go calls f
   where
-    at-most : (es : List Entry) → few es ≡ true → length (find n es .arguments) ≤ 6
-    at-most [] f = omega arith
-    at-most (e ∷ es) f =
-        by-test (eqb n (e .number))
-        (λ q. rw q (leb-true (length (e .arguments)) 6 (and-left (leb (length (e .arguments)) 6) (few es) f)))
-        (λ q. rw q (at-most es (and-right (leb (length (e .arguments)) 6) (few es) f)))
+    go : (es : List Entry) → each p es ≡ true → p (find n es) ≡ true
+    go [] f = h
+    go (e ∷ es) f = by-test (eqb n (e .number)) (λ q. rw q (and-left (p e) (each p es) f)) (λ q. rw q (go es (and-right (p e) (each p es) f)))
+
+-- no call names more than six arguments
+pub few-named : (n : ℕ) → length (entryOf n .arguments) ≤ 6
+unfolding each
+few-named n = leb-true (length (entryOf n .arguments)) 6 (of-table (λ e. leb (length (e .arguments)) 6) refl refl n)
+
+-- the row names the role
+abbrev pub isNamed : Role → Entry → Bool
+isNamed r e = anyIn (λ x. eqb (code r) (code x)) (e .arguments)
+
+-- a call that names the one role names the other
+abbrev pub both : Role → Role → Entry → Bool
+both r s e = cond (isNamed r e) (isNamed s e) true
+
+pub with-it : (r s : Role) → each (both r s) calls ≡ true → both r s (entry 0 [] noPhase) ≡ true → (c : Call) → names r c ≡ true → names s c ≡ true
+unfolding names
+with-it r s f h c e = let g = of-table (both r s) h f (c .number) in subst (λ (b : Bool). cond b (names s c) true ≡ true) e g
+
+-- a call that names the role is not one that does not
+pub not-that : (n : ℕ) (r : Role) (c : Call) → isNamed r (entryOf n) ≡ false → names r c ≡ true → eqb (c .number) n ≡ false
+unfolding names
+not-that n r c h e = by-test (eqb (c .number) n) (λ q. absurd (true≢false (sym e ∙ ap (λ (k : ℕ). isNamed r (entryOf k)) (eqb-true (c .number) n q) ∙ h))) (λ q. q)
 
 pub no-role : (n i : ℕ) → 6 ≤ i → roleAt n i ≡ 0
 unfolding roleAt

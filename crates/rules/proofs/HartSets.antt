@@ -47,3 +47,36 @@ bits-others n h = fun-ext (λ j. member-without j (full n) h ∙ rw (member-full
     go true false = refl
     go false true = refl
     go false false = refl
+
+-- ---- the harts below h that pass
+abbrev pub upto : Harts → ℕ → Harts
+upto p h j = ltb j h && p j
+
+pub upto-none : (p : Harts) → bits 0 ≡ upto p 0
+upto-none p = fun-ext (λ j. member-none j ∙ rw (le-ltb j 0 (omega arith)))
+
+up-one : (p : Harts) (i j : ℕ) (b : Bool) → p i ≡ b → (b && eqb j i || ltb j i && p j) ≡ upto p (i + 1) j
+up-one p i j b q =
+    by-test (eqb j i)
+    (λ e. let z : j ≡ i = eqb-true j i e in rw (e, lt-ltb j (i + 1) (omega arith), le-ltb j i (omega arith), z, q) (last b))
+    (λ e. let z = eqb-false j i e in
+    by-test (ltb j i) (λ y. let l = ltb-true j i y in rw (e, y, lt-ltb j (i + 1) (omega arith)) (skip b (p j)))
+    (λ y. let l = ltb-false j i y in rw (e, y, le-ltb j (i + 1) (omega arith)) (skip b false)))
+  where
+    last : (b : Bool) → (b && true || false) ≡ b
+    last true = refl
+    last false = refl
+
+    skip : (b x : Bool) → (b && false || x) ≡ x
+    skip true x = refl
+    skip false x = refl
+
+pub upto-with : (p : Harts) (i w : ℕ) → bits w ≡ upto p i → p i ≡ true → bits (with w i) ≡ upto p (i + 1)
+upto-with p i w e q = fun-ext (λ j. member-with j w i ∙ ap (λ (x : Bool). eqb j i || x) (ap (λ (f : Harts). f j) e) ∙ up-one p i j true q)
+
+pub upto-skip : (p : Harts) (i w : ℕ) → bits w ≡ upto p i → p i ≡ false → bits w ≡ upto p (i + 1)
+upto-skip p i w e q = fun-ext (λ j. ap (λ (f : Harts). f j) e ∙ up-one p i j false q)
+
+-- harts 8 and up never pass
+pub upto-all : (p : Harts) → ((j : ℕ) → 8 ≤ j → p j ≡ false) → upto p 8 ≡ p
+upto-all p h = fun-ext (λ j. by-test (ltb j 8) (λ e. rw e) (λ e. rw e (sym (h j (ltb-false j 8 e)))))

@@ -4,6 +4,8 @@ pub mod Exactly
 pub mod HartSets
 pub mod Refused
 pub mod Seatings
+pub mod Bounds
+pub mod Spans
 pub mod Squares
 pub mod Unique
 pub mod Views

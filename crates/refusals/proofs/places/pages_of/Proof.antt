@@ -13,7 +13,7 @@ unit-of-requires c κs = search needs
 mul-result : tie.Need-mul-result
 mul-result c =
     let a = c .before .before .before .args in
-    let h : a .count * c .unit-of .result < 2 ^ 64 = rw (c .unit-of .ensures .0) (counted (a .measured) (a .counted) (a .length) (a .count) (a .kind) (c .before .before .if1 .left) (c .before .if2 .taken) (c .before .before .before .pre)) in
+    let h : a .count * c .unit-of .result < 2 ^ 64 = rw (c .unit-of .ensures .0) (c .before .before .before .pre (c .before .before .if1 .left) (c .before .if2 .taken)) in
     search needs
 
 returns-2 : tie.Need-returns-2

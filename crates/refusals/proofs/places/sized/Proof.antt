@@ -1,3 +1,12 @@
+use Prim.Native.Nat.{_*_}
+use mathlib.Core.Path.{_≡_}
+use mathlib.Core.Bool.{not}
+use native.Mathlib.Omega.{arith}
+use lib.Dec.{eqb}
+use borrow.Author.Tests.{ltb-false}
+use Rattle.sets.proofs.Bools.{and-off}
+use Rattle.rules.specs.Calls.{unit, arg}
+use Rattle.refusals.proofs.Ready.{counted-not-9}
 use Prim.Native.Nat.{ℕ, _<_, _^_}
 use mathlib.Core.Path.{_∙_, sym, subst}
 use borrow.Author.Needs.{needs}
@@ -25,10 +34,13 @@ element-copy-out-pages-of-3 c = search needs
 pages-of-requires : tie.Need-pages-of-requires
 unfolding size
 pages-of-requires c κs =
-    let a = c .before .before .before .before .before .pre .0 in
-    subst (λ (x : ℕ). x < 2 ^ 64) (λ i. sizeBy (sym (c .before .before .before .before .names .ensures ∙ a .named ByteLength) i)
-    (sym (c .before .before .before .names2 .ensures ∙ a .named UnitCount) i) (sym (a .value ByteLength) i) (sym (a .value UnitCount) i) (sym (a .value UnitType) i))
-    (c .before .before .before .before .before .pre .1)
+    let s = c .before .before .before .before .before in
+    let a = s .pre .0 in
+    let n = c .before .before .before .before .names .ensures ∙ a .named ByteLength in
+    let m = c .before .before .before .names2 .ensures ∙ a .named UnitCount in
+    λ e f. let h = ltb-false 4096 (size (s .args .q)) (and-off (not (eqb (s .args .q .number) 9)) _ (s .pre .1) (rw (counted-not-9 (s .args .q) (sym m ∙ f)))) in
+    let z : size (s .args .q) ≡ arg UnitCount (s .args .q) * unit (s .args .q) = rw (sym n ∙ e, sym m ∙ f) in
+    rw (a .value UnitCount, a .value UnitType) (omega (arith, z, h))
 
 returns : tie.Need-returns
 unfolding size
