@@ -1,6 +1,6 @@
 -- The code's trackers and marks as document 01's, and what beginning a fence and striking a hart out make of one.
 use mathlib.Core.Option.{Option, none, some}
-use Rattle.sets.specs.Terms.{ℕ, _+_}
+use Rattle.sets.specs.Terms.{ℕ, _+_, min}
 use Rattle.sets.specs.Set.{without}
 use Rattle.rules.specs.Fence.{Tracker}
 use Rattle.rules.specs.Encoding.{bits}
@@ -33,3 +33,7 @@ tvmBegun t inside = record { version = record { 0 = t .version .0 + 1 }; awaited
 
 abbrev pub tvmStruck : TvmTracker → ℕ → TvmTracker
 tvmStruck t hart = record { version = t .version; awaited = without (t .awaited) hart }
+
+-- "destroy adds 1 (65,535 stays)"
+abbrev pub tvmEnded : TvmTracker → TvmTracker
+tvmEnded t = record { version = record { 0 = min 65535 (t .version .0 + 1) }; awaited = t .awaited }

@@ -1,11 +1,11 @@
 // Fence versions and trackers. "The global version and a TVM's version count different fences and never meet in a comparison": two types, so
 // that a page's recorded version meets only its own tracker.
 ghost use mathlib.Core.Path.{_≡_};
-ghost use Prim.Native.Nat.{_<_};
+ghost use Prim.Native.Nat.{_+_, _<_, min};
 ghost use Rattle.rules.specs.Fence.{done, number};
 ghost use Rattle.rules.specs.Ledger.{flushes as flushesAt};
 ghost use Rattle.rules.specs.Encoding.{bits};
-ghost use Rattle.fences.specs.Trackers.{globalOf, tvmOf, trackerAt, markOf, globalBegun, globalStruck, tvmBegun, tvmStruck};
+ghost use Rattle.fences.specs.Trackers.{globalOf, tvmOf, trackerAt, markOf, globalBegun, globalStruck, tvmBegun, tvmStruck, tvmEnded};
 
 pub mod lent;
 
@@ -93,6 +93,21 @@ pub fn tvm_struck(t: TvmTracker, hart: u8) -> TvmTracker
 {
     let version = t.version;
     let awaited = sets::remove(t.awaited, hart);
+    TvmTracker { version, awaited }
+}
+
+// "Destroy adds 1 (65,535 stays)".
+fn next(version: u16) -> u16
+    ensures { λ r. ⌜ r ≡ min 65535 (version + 1) ⌝ }
+{
+    if version == 65535 { 65535 } else { version + 1 }
+}
+
+pub fn tvm_ended(t: TvmTracker) -> TvmTracker
+    ensures { λ r. ⌜ r ≡ tvmEnded t ⌝ }
+{
+    let version = TvmVersion(next(t.version.0));
+    let awaited = t.awaited;
     TvmTracker { version, awaited }
 }
 
