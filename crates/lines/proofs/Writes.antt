@@ -32,3 +32,10 @@ one x at b = record { place = refl; bytes = refl }
 pub one-more : (w x y : List ℕ) (at i : ℕ) → i < length w → Written (take i w) x at (at + i) y
     → Written (take (i + 1) w) x at (at + (i + 1)) (set y (at + i) (getD w i 0))
 one-more w x y at i l v = rw (add-one, take-suc w i 0 l, ← add-one, ← add-assoc) (joined v (one y (at + i) (getD w i 0)))
+
+pub shorter : (a b : List ℕ) → length a ≤ length (a ++ b)
+shorter a b = omega (arith, length-append a b)
+
+-- after the front of a text there is room for the rest
+pub room : {a x y : List ℕ} (b : List ℕ) {at mid : ℕ} → Written a x at mid y → at + length (a ++ b) ≤ length x → mid + length b ≤ length y
+room {a} {x} {y} b {at} {mid} w h = omega (arith, w .place, kept w, length-append a b)

@@ -11,9 +11,11 @@ use Rattle.tape.specs.Tape.{Reading, reading}
 use Rattle.lines.specs.Text.{decimal, signed, blank, newline}
 
 -- "a line for each record: number from 1, call, error, value, single blanks"
-abbrev pub line : ℕ → ℕ → Answer → List ℕ
-line number call answer =
-    decimal number ++ blank ++ decimal call ++ blank ++ signed (errorOf answer) ++ blank ++ decimal (valueOf answer) ++ newline
+abbrev pub told : Answer → List ℕ
+told answer = signed (errorOf answer) ++ blank ++ decimal (valueOf answer) ++ newline
+
+unfoldable pub line : ℕ → ℕ → Answer → List ℕ
+line number call answer = decimal number ++ blank ++ decimal call ++ blank ++ told answer
 
 -- "A bad record prints its number and `short` or `mark`"
 abbrev pub short : List ℕ
@@ -22,10 +24,13 @@ short = 115 ∷ 104 ∷ 111 ∷ 114 ∷ 116 ∷ []
 abbrev pub mark : List ℕ
 mark = 109 ∷ 97 ∷ 114 ∷ 107 ∷ []
 
+abbrev pub noted : ℕ → List ℕ → List ℕ
+noted number word = decimal number ++ blank ++ word ++ newline
+
 abbrev pub bad : ℕ → Step → List ℕ
 bad number End = []
-bad number Short = decimal number ++ blank ++ short ++ newline
-bad number Mark = decimal number ++ blank ++ mark ++ newline
+bad number Short = noted number short
+bad number Mark = noted number mark
 bad number (Record call hart next) = []
 
 -- the lines of the records from `number` on, with what each was answered, and of the bad record after them
