@@ -1,2 +1,4 @@
 pub mod Puts
 pub mod Ranges
+pub mod ByNumber
+pub mod Lawful

@@ -1,5 +1,5 @@
 -- What effects make of parts of the ledger, and what a whole effect is.
-use Rattle.sets.specs.Terms.{ℕ, _+_, min, _≡_}
+use Rattle.sets.specs.Terms.{ℕ, _+_, min, _≡_, false, [], _∷_, eqb, anyIn}
 use Rattle.rules.specs.Page.{Table}
 use Rattle.rules.specs.Fence.{Tracker}
 use Rattle.rules.specs.Ledger.{Ledger, Region}
@@ -21,6 +21,10 @@ Lawful l c = (t : Table) × (refusal l t c ≡ 0)
 -- the value and the ledger are the call's; no table matters to either
 abbrev pub Kept : Ledger → Call → ℕ → Ledger → Type 0
 Kept l c r l′ = (t : Table) → (r ≡ value l t c) × (l′ ≡ ledger l t c)
+
+-- none of the calls that have a value
+abbrev pub InSlots : Call → Type 0
+InSlots c = anyIn (eqb (c .number)) (3 ∷ 4 ∷ 5 ∷ 15 ∷ 16 ∷ 32 ∷ []) ≡ false
 
 -- the whole of an accepted call
 pub record Done (l : Ledger) (t : Table) (c : Call) (r : ℕ) (l′ : Ledger) (t′ : Table) : Type 0 where
