@@ -6,6 +6,7 @@ pub mod Holders
 pub mod Seats
 pub mod Host
 pub mod Watch
+pub mod Needed
 pub mod Marks
 pub mod Guest
 pub mod Waiting
