@@ -12,10 +12,7 @@ use Rattle.rules.specs.Page.{Table, page, meant, isMeant}
 use Rattle.rules.specs.Fence.{someone}
 use Rattle.rules.specs.Refusals.{refusal, taken}
 use Rattle.rules.specs.Step.{step, run}
-use Rattle.history.specs.Reckoned.{reckon, seats}
-use Rattle.history.specs.Holders.{nobody, holds, maps, gives, given, takesBack, holding, held}
-use Rattle.history.specs.Translations.{hostTurn, hosts, guestTurn, guests}
-use Rattle.history.specs.Waiting.{Watch, globally, forTvm, watching, Turned, later, watch, ended, needs}
+use Rattle.history.specs.Demand3.{reckon, seats, nobody, holds, maps, gives, given, takesBack, holding, held, hostTurn, hosts, guestTurn, guests, Watch, globally, forTvm, watching, Turned, later, watch, ended, needs}
 use Rattle.rules.proofs.Accepted.{at-number}
 
 -- sixteen records of no kind, which open makes ordinary

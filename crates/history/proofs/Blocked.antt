@@ -17,8 +17,7 @@ use Rattle.rules.specs.Calls.{arg, index, size, firstGuest}
 use Rattle.rules.specs.Refusals.{taken, theOne, mapped}
 use Rattle.rules.specs.Effects.{table, ledger, writes, destroyed}
 use Rattle.rules.specs.Step.{State}
-use Rattle.history.specs.Reckoned.{after}
-use Rattle.history.specs.Waiting.{Watch, forTvm, watching, notDone, BlockedWaits}
+use Rattle.history.specs.Demand3.{after, Watch, forTvm, watching, notDone, BlockedWaits}
 use Rattle.rules.proofs.Accepted.{call, Passed, not-again, as-wanted, at-number}
 use Rattle.history.proofs.Runs.{accepted}
 use Rattle.history.proofs.Spans.{at-guest, meant-is, put-field}
@@ -136,7 +135,7 @@ starts p l t c q old now = (open-then l t (call 17 c) q refl, go (writes l t (ca
     go true e = record { kind-is = refl; slot-is = refl; version-is = refl; inv = before refl refl }
     go false e = absurd (true≢false (sym e ∙ old))
 
-by-slot : (p k : ℕ) (s : State) → s .table .page p .kind ≡ 8 → s .table .page p .slot ≡ k → notDone s p ≡ not (done (s .ledger .slot k .fence) (s .table .page p .version))
+by-slot : (p k : ℕ) (s : State) → s .table .page p .kind ≡ 8 → s .table .page p .slot ≡ k → notDone (s .ledger) (s .table .page p) ≡ not (done (s .ledger .slot k .fence) (s .table .page p .version))
 unfolding notDone
 by-slot p k s e f = rw (e, f)
 

@@ -15,8 +15,7 @@ use Rattle.rules.specs.Calls.{index}
 use Rattle.rules.specs.Refusals.{taken}
 use Rattle.rules.specs.Effects.{table, ledger, writes}
 use Rattle.rules.specs.Step.{State}
-use Rattle.history.specs.Reckoned.{after}
-use Rattle.history.specs.Waiting.{Watch, globally, watching, notDone, ConvertedWaits}
+use Rattle.history.specs.Demand3.{after, Watch, globally, watching, notDone, ConvertedWaits}
 use Rattle.rules.proofs.Accepted.{call, Passed, not-again, at-number}
 use Rattle.history.proofs.Runs.{accepted}
 use Rattle.history.proofs.Spans.{host-ordinary}
@@ -83,7 +82,7 @@ starts p l t c q old now = (open-then l t (call 1 c) q refl, go (writes l t (cal
     go true e = record { kind-is = refl; slot-is = refl; version-is = refl; inv = before refl refl }
     go false e = absurd (true≢false (sym e ∙ old))
 
-by-global : (p : ℕ) (s : State) → s .table .page p .kind ≡ 1 → s .table .page p .slot ≡ 0 → notDone s p ≡ not (done (s .ledger .global) (s .table .page p .version))
+by-global : (p : ℕ) (s : State) → s .table .page p .kind ≡ 1 → s .table .page p .slot ≡ 0 → notDone (s .ledger) (s .table .page p) ≡ not (done (s .ledger .global) (s .table .page p .version))
 unfolding notDone
 by-global p s e f = rw e (or-false _)
 

@@ -25,8 +25,7 @@ use Rattle.rules.specs.Calls.{Span, moves, arg, index, freeSpans, size, firstGu
 use Rattle.rules.specs.Refusals.{early, late, lowestOf, refusal, refuses6, refuses7, anyPage, anyGuest, theOne, mapped}
 use Rattle.rules.specs.Step.{State, settle, step}
 use Rattle.rules.proofs.Exactly.{exactly}
-use Rattle.history.specs.Holders.{countsFree}
-use Rattle.history.specs.Waiting.{needs, notDone}
+use Rattle.history.specs.Demand3.{countsFree, needs, notDone}
 use Rattle.history.proofs.Records.{Claim, claim}
 use Rattle.history.proofs.Spans.{to-range, isOf, find-number, neither-free, at-guest, Meant, meant-is}
 
@@ -47,7 +46,7 @@ refused-by s d i b e =
     (suc (0 + j), omega arith, omega arith, ap (λ k. settle k s d .answer) q)
 
 -- a page whose version is not done: of kind 1, or of kind 8
-pub by-kind : {P : Type 0} (s : State) (p : ℕ) → notDone s p ≡ true → (s .table .page p .kind ≡ 1 → done (s .ledger .global) (s .table .page p .version) ≡ false → P)
+pub by-kind : {P : Type 0} (s : State) (p : ℕ) → notDone (s .ledger) (s .table .page p) ≡ true → (s .table .page p .kind ≡ 1 → done (s .ledger .global) (s .table .page p .version) ≡ false → P)
     → (s .table .page p .kind ≡ 8 → done (s .ledger .slot (s .table .page p .slot) .fence) (s .table .page p .version) ≡ false → P) → P
 unfolding notDone
 by-kind {P} s p e f g = go (or-cases (a && not (done (s .ledger .global) (q .version))) (b && not (done (s .ledger .slot (q .slot) .fence) (q .version))) e)
@@ -81,11 +80,11 @@ module _ (s : State) (d : Call) where
   meant-waits = undoes && anyGuest (s .ledger) (s .table) d late-at
 
   -- neither condition 6 nor 7 holds: a page that is needed is done
-  not-free : (p : ℕ) → countsFree (s .ledger .global) (s .table .page p) ≡ true → notDone s p ≡ true → ⊥
+  not-free : (p : ℕ) → countsFree (s .ledger .global) (s .table .page p) ≡ true → notDone (s .ledger) (s .table .page p) ≡ true → ⊥
   not-free p w e = by-kind s p e (λ k v. false≢true (rw (k, v) at w)) (λ k v. false≢true (rw k at w))
 
   not-meant : refuses7 (s .ledger) (s .table) d ≡ false → (p : ℕ) → (undoes && isMeant (s .table) (s .ledger .pages) (arg Tvm d) (firstGuest d) (size d) p) ≡ true
-      → notDone s p ≡ true → ⊥
+      → notDone (s .ledger) (s .table .page p) ≡ true → ⊥
   unfolding refuses7
   not-meant e7 p w e =
       let l = s .ledger in
@@ -97,7 +96,7 @@ module _ (s : State) (d : Call) where
       let v : done (l .slot (arg Tvm d) .fence) (t .page p .version) ≡ true = subst (λ i. done (l .slot (arg Tvm d) .fence) (t .page i .version) ≡ true) (m .is-meant) u in
       by-kind s p e (λ x y. false≢true (rw x at (k .is-mapped))) (λ x y. true≢false (sym v ∙ rw (k .slot-is) at y))
 
-  pub needed : (p : ℕ) → needs s d p ≡ true → notDone s p ≡ true → Within7 s d
+  pub needed : (p : ℕ) → needs s d p ≡ true → notDone (s .ledger) (s .table .page p) ≡ true → Within7 s d
   unfolding needs
   needed p w e =
       by-test (refuses6 (s .ledger) (s .table) d) (λ e6. refused-by s d 5 (omega arith) e6)
@@ -111,7 +110,7 @@ module _ (s : State) (d : Call) where
 
   -- the page for which a call is refused 7
   abbrev Blamed : Type 0
-  Blamed = (q : ℕ) × (needs s d q ≡ true) × (notDone s q ≡ true)
+  Blamed = (q : ℕ) × (needs s d q ≡ true) × (notDone (s .ledger) (s .table .page q) ≡ true)
 
   for-free : free-waits ≡ true → Blamed
   unfolding needs notDone
@@ -135,7 +134,7 @@ module _ (s : State) (d : Call) where
     unfolding needs isMeant
     is-needed two here below m = rw (two, below, k .guest-is, here, eq-eqb (meant (s .table) (s .ledger .pages) (arg Tvm d) g) q m) (or-true (isOf (freeSpans d) q))
 
-    is-late : s .table .page q .kind ≡ 8 → not (done (s .ledger .slot (arg Tvm d) .fence) (s .table .page q .version)) ≡ true → notDone s q ≡ true
+    is-late : s .table .page q .kind ≡ 8 → not (done (s .ledger .slot (arg Tvm d) .fence) (s .table .page q .version)) ≡ true → notDone (s .ledger) (s .table .page q) ≡ true
     unfolding notDone
     is-late eight late = rw (eight, k .slot-is) late
 

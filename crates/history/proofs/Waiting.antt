@@ -14,8 +14,7 @@ use Rattle.rules.specs.Fence.{Harts, Tracker, done}
 use Rattle.rules.specs.Ledger.{Ledger, isOpen}
 use Rattle.rules.specs.Effects.{table, ledger, value, writes, written}
 use Rattle.rules.specs.Step.{State, step}
-use Rattle.history.specs.Reckoned.{after, seats, seated}
-use Rattle.history.specs.Waiting.{Fencing, Watch, watching, Turned, later, watch, ended, notDone, Waits}
+use Rattle.history.specs.Demand3.{after, seats, seated, Fencing, Watch, watching, Turned, later, watch, ended, notDone, Waits}
 use Rattle.rules.proofs.Accepted.{call, ByCall, by-call, Passed}
 use Rattle.history.proofs.Runs.{EachKeeps, kept}
 use Rattle.history.proofs.Seats.{SeatedIn, seats-kept, open-kept, seated-then}
@@ -80,18 +79,18 @@ module _ (f : Fencing) (fence : Ledger → Tracker) (m p k r : ℕ) where
         one w l t (call n c) s (seats-kept (w .seats) l t c (s .sits) n b q) (open-kept (w .seats) l t c (s .sits) n b q (s .is-open)) (by-call _ (fates w l t c s) n b q)
 
     -- by the page's kind and slot, that is the fence that counts
-    module _ (counts : (s : State) → s .table .page p .kind ≡ m → s .table .page p .slot ≡ k → notDone s p ≡ not (done (fence (s .ledger)) (s .table .page p .version))) where
+    module _ (counts : (s : State) → s .table .page p .kind ≡ m → s .table .page p .slot ≡ k → notDone (s .ledger) (s .table .page p) ≡ not (done (fence (s .ledger)) (s .table .page p .version))) where
       ends : (s : State) (w : Watch) → Live m k r (fence (s .ledger)) (w .begun) (w .owing) (s .table .page p) → Waits fence p s w
       ends s w v = record {
         done-when = when;
         refused-before = λ e d n. needed s d p n (still ∙ ap not e);
-        other-after = λ e d a. let (q, n, u) = blamed s d a in (q, λ z. true≢false (sym u ∙ ap (notDone s) z ∙ still ∙ ap not e), n, u);
+        other-after = λ e d a. let (q, n, u) = blamed s d a in (q, λ z. true≢false (sym u ∙ ap (λ i. notDone (s .ledger) (s .table .page i)) z ∙ still ∙ ap not e), n, u);
       }
         where
           when : done (fence (s .ledger)) (s .table .page p .version) ≡ ended w
           when = ap (done (fence (s .ledger))) (v .version-is) ∙ inv-done r (fence (s .ledger)) (w .begun) (w .owing) (v .inv)
 
-          still : notDone s p ≡ not (ended w)
+          still : notDone (s .ledger) (s .table .page p) ≡ not (ended w)
           still = counts s (v .kind-is) (v .slot-is) ∙ ap not when
 
       pub waits : (t : Table) (cs : List Call) (c : Call) (ds : List Call) → Turned m t cs c p → isOpen (step (after t cs) c .after .ledger) ≡ true
