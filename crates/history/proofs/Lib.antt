@@ -12,4 +12,5 @@ pub mod Guest
 pub mod Waiting
 pub mod Converted
 pub mod Blocked
+pub mod Demand3
 pub mod Alive

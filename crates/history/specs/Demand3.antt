@@ -1,5 +1,5 @@
--- Demand 3: what holds over any calls from a fresh ledger. All its definitions and statements.
--- A history is any list of calls, refused ones among them, from a ledger that is not open, on any lent table.
+-- Demand 3: what holds over any calls from a fresh ledger. All its definitions and statements; `Demand3`, at the end, names them all, and
+-- proofs/Demand3.antt proves it. A history is any list of calls, refused ones among them, from a ledger that is not open, on any lent table.
 use mathlib.Core.Logic.{_≢_}
 use Rattle.sets.specs.Terms.{ℕ, _+_, _-_, _≤_, _<_, _≡_, Bool, true, false, cond, not, _&&_, _||_, List, [], _∷_, ltb, eqb, anyIn, row, within, put}
 use Rattle.rules.specs.declared.{Page.Page, Call.Call, Answer.Answer, Answer.the-variants.Accepted, Answer.the-variants.Refused}
@@ -228,3 +228,19 @@ abbrev pub BlockedWaits : Type 0
 BlockedWaits =
     (t : Table) (cs : List Call) (c : Call) (p : ℕ) (ds : List Call) → c .number ≡ 17 → Turned 8 t cs c p → watch (forTvm (arg Tvm c)) 8 p t cs c ds .lasts ≡ true
     → Waits (λ l. l .slot (arg Tvm c) .fence) p (later t cs c ds) (watch (forTvm (arg Tvm c)) 8 p t cs c ds)
+
+-- ---- All of it
+pub record Demand3 : Type 0 where
+  -- "A page's holder is the one that accepted calls last gave it to."
+  pub holders-agree : HoldersAgree
+  -- "No page is given while held."
+  pub given-unheld : GivenUnheld
+  -- "No guest page of a VM has two pages."
+  pub one-claim : OneClaim
+  -- "No hart inside a VM may use a stale translation."
+  pub guest-safe : GuestSafe
+  -- "No host translation leads to a free or held page."
+  pub host-safe : HostSafe
+  -- "Waiting ends, exactly when the paper says."
+  pub converted-waits : ConvertedWaits
+  pub blocked-waits : BlockedWaits
