@@ -13,4 +13,5 @@ pub mod Waiting
 pub mod Converted
 pub mod Blocked
 pub mod Demand3
+pub mod Played
 pub mod Alive
