@@ -1,4 +1,2 @@
 pub mod Puts
 pub mod Ranges
-pub mod ByNumber
-pub mod Lawful

@@ -1,15 +1,18 @@
 // The ledger: 426 words and a table of page records, both lent. All zero is a ledger that is not open. `call` is all that a host needs.
+mod kept;
+mod table;
+
 ghost use mathlib.Core.Path.{_≡_};
 ghost use lib.ListN.{length};
 ghost use Rattle.rules.specs.Encoding.{view, pagesOf, Numbers, Called};
 ghost use Rattle.ledger.specs.Settled.{Settled, callWith};
-use effects::ledger::on_ledger;
-use effects::table::on_table;
+use kept::on_ledger;
 use refusals::asked::asked;
 use refusals::number::refusal;
 use refusals::places::sized;
 use rules::Answer;
 use rules::Call;
+use table::on_table;
 use words::cells::known;
 
 // Whatever may refuse comes first and writes nothing; then the records, while the ledger is as the call found it; then the ledger.

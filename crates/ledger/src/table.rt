@@ -7,7 +7,7 @@ ghost use Rattle.rules.specs.Calls.{names as namesRole, moves};
 ghost use Rattle.rules.specs.Effects.{table};
 ghost use Rattle.rules.specs.Encoding.{view, pagesOf};
 ghost use Rattle.refusals.specs.Ready.{Ready};
-use super::pages;
+use effects::pages;
 use records::guest;
 use records::table;
 use refusals::early::names;

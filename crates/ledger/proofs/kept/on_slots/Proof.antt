@@ -6,11 +6,11 @@ use Rattle.sets.specs.Terms.{oneOf, oneFrom}
 use Rattle.rules.specs.declared.Role.the-variants.{Tvm, Vcpu, GuestBase, HartCount, PageCount}
 use Rattle.rules.specs.Calls.{entryOf}
 use Rattle.rules.proofs.CallTable.{named-at}
-use Rattle.effects.proofs.Lawful.{tvm-low, vcpu-low, guests-low, region-free, opened-harts, opened-pages}
-use Rattle.effects.proofs.ByNumber.{kept, call-6, call-8, call-9, call-14, call-33, call-none}
+use Rattle.ledger.proofs.Lawful.{tvm-low, vcpu-low, guests-low, region-free, opened-harts, opened-pages}
+use Rattle.ledger.proofs.ByNumber.{kept, call-6, call-8, call-9, call-14, call-33, call-none}
 use borrow.Author.Needs.{needs}
-use Rattle.effects.proofs.ledger.on_slots.Statement.{statement}
-use Rattle.effects.proofs.ledger.on_slots.Tie as tie
+use Rattle.ledger.proofs.kept.on_slots.Statement.{statement}
+use Rattle.ledger.proofs.kept.on_slots.Tie as tie
 
 element-copy-out-tvm : tie.Need-element-copy-out-tvm
 element-copy-out-tvm c = search needs

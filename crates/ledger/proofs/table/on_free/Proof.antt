@@ -14,10 +14,10 @@ use Rattle.rules.specs.Encoding.{view, pagesOf}
 use Rattle.rules.proofs.CallTable.{named-at}
 use Rattle.refusals.specs.Room.{takeableAt}
 use Rattle.refusals.proofs.Ready.{free-fits, directory-fits, tvm-fits, pages-fit, guest-fits, typed-tvm, typed-guest, typed-not-9}
-use Rattle.effects.proofs.ByNumber.{table-2, table-5, table-10, table-14, table-typed, typed-free}
+use Rattle.ledger.proofs.ByNumber.{table-2, table-5, table-10, table-14, table-typed, typed-free}
 use borrow.Author.Needs.{needs}
-use Rattle.effects.proofs.table.on_free.Statement.{statement}
-use Rattle.effects.proofs.table.on_free.Tie as tie
+use Rattle.ledger.proofs.table.on_free.Statement.{statement}
+use Rattle.ledger.proofs.table.on_free.Tie as tie
 
 element-copy-out-free : tie.Need-element-copy-out-free
 element-copy-out-free c = search needs

@@ -8,10 +8,10 @@ use Rattle.rules.specs.Calls.{entryOf, index}
 use Rattle.rules.specs.Encoding.{view, pagesOf}
 use Rattle.rules.proofs.CallTable.{named-at}
 use Rattle.refusals.proofs.Ready.{host-fits, pages-fit, tvm-fits, all-records, opening-fits}
-use Rattle.effects.proofs.ByNumber.{table-1, table-8, table-33, table-none}
+use Rattle.ledger.proofs.ByNumber.{table-1, table-8, table-33, table-none}
 use borrow.Author.Needs.{needs}
-use Rattle.effects.proofs.table.on_table.Statement.{statement}
-use Rattle.effects.proofs.table.on_table.Tie as tie
+use Rattle.ledger.proofs.table.on_table.Statement.{statement}
+use Rattle.ledger.proofs.table.on_table.Tie as tie
 
 names-requires : tie.Need-names-requires
 names-requires c κs = search needs

@@ -2,8 +2,8 @@ use mathlib.Core.Path.{_≡_, refl, sym, _∙_, ap}
 use Rattle.rules.specs.Ledger.{withSlot, bare}
 use Rattle.rules.specs.Encoding.{view}
 use borrow.Author.Needs.{needs}
-use Rattle.effects.proofs.ledger.create.Statement.{statement}
-use Rattle.effects.proofs.ledger.create.Tie as tie
+use Rattle.ledger.proofs.kept.create.Statement.{statement}
+use Rattle.ledger.proofs.kept.create.Tie as tie
 
 taken-requires : tie.Need-taken-requires
 taken-requires c κs = search needs

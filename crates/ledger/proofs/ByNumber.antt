@@ -25,7 +25,8 @@ use Rattle.rules.proofs.CallTable.{each, with-it, among, named-at}
 use Rattle.rules.proofs.Spans.{free-spans}
 use Rattle.records.specs.Passes.{becomes}
 use Rattle.refusals.specs.Room.{takeableAt, unusedAt}
-use Rattle.effects.specs.Parts.{Kept, endedFence}
+use Rattle.effects.specs.Parts.{endedFence}
+use Rattle.ledger.specs.Settled.{Kept}
 
 -- ---- the table
 module _ (l : Ledger) (t : Table) (c : Call) where

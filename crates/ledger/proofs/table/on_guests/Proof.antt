@@ -7,10 +7,10 @@ use Rattle.rules.specs.Page.{over, isMeant}
 use Rattle.rules.specs.Encoding.{view, pagesOf}
 use Rattle.records.specs.Passes.{becomes}
 use Rattle.refusals.proofs.Ready.{moves-tvm, moves-guest, moves-not-9, guest-not-open, tvm-fits, guest-fits, pages-fit, all-records}
-use Rattle.effects.proofs.ByNumber.{table-moved}
+use Rattle.ledger.proofs.ByNumber.{table-moved}
 use borrow.Author.Needs.{needs}
-use Rattle.effects.proofs.table.on_guests.Statement.{statement}
-use Rattle.effects.proofs.table.on_guests.Tie as tie
+use Rattle.ledger.proofs.table.on_guests.Statement.{statement}
+use Rattle.ledger.proofs.table.on_guests.Tie as tie
 
 element-copy-out-tvm : tie.Need-element-copy-out-tvm
 element-copy-out-tvm c = search needs
