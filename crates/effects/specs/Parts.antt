@@ -1,11 +1,7 @@
--- What effects make of parts of the ledger, and what a whole effect is.
-use Rattle.sets.specs.Terms.{ℕ, _+_, min, _≡_}
-use Rattle.rules.specs.Page.{Table}
+-- What effects make of parts of the ledger.
+use Rattle.sets.specs.Terms.{_+_, min}
 use Rattle.rules.specs.Fence.{Tracker}
-use Rattle.rules.specs.Ledger.{Ledger, Region}
-use Rattle.rules.specs.declared.Call.{Call}
-use Rattle.rules.specs.Refusals.{refusal}
-use Rattle.rules.specs.Effects.{value, ledger, table}
+use Rattle.rules.specs.Ledger.{Region}
 
 abbrev pub noRegion : Region
 noRegion = record { first = 0; pages = 0 }
@@ -13,17 +9,3 @@ noRegion = record { first = 0; pages = 0 }
 -- "destroy adds 1 (65,535 stays)"
 abbrev pub endedFence : Tracker → Tracker
 endedFence f = record { version = min 65535 (f .version + 1); awaited = f .awaited }
-
--- nothing refuses the call, on some table
-abbrev pub Lawful : Ledger → Call → Type 0
-Lawful l c = (t : Table) × (refusal l t c ≡ 0)
-
--- the value and the ledger are the call's; no table matters to either
-abbrev pub Kept : Ledger → Call → ℕ → Ledger → Type 0
-Kept l c r l′ = (t : Table) → (r ≡ value l t c) × (l′ ≡ ledger l t c)
-
--- the whole of an accepted call
-pub record Done (l : Ledger) (t : Table) (c : Call) (r : ℕ) (l′ : Ledger) (t′ : Table) : Type 0 where
-  pub value-is : r ≡ value l t c
-  pub ledger-is : l′ ≡ ledger l t c
-  pub table-is : t′ ≡ table l t c

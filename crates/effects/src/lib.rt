@@ -1,5 +1,5 @@
-// What an accepted call writes. Every function here is reached only where nothing refuses the call; leaves speak of a slot, a hart or a range, and
-// `apply` hands each call to its own.
+// What an accepted call writes. Every function here is reached only where nothing refuses the call; each speaks of a slot, a hart or a
+// range, not of a call.
 pub mod fencing;
 pub mod pages;
 pub mod seats;

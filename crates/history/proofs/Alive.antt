@@ -1,62 +1,24 @@
 -- The reckonings are not empty: a history in which a page is held, a guest's translation and a host's are there, and waits begin and end.
 -- Assumes nothing.
-use Prim.Native.Nat.{ℕ}
 use mathlib.Core.Path.{_≡_, refl}
-use mathlib.Core.Bool.{Bool, true, false, not, _&&_}
+use mathlib.Core.Bool.{Bool, true, false}
 use mathlib.Core.List.{List, [], _∷_, _++_}
-use Rattle.sets.specs.Look.{any, count, lowest}
 use Rattle.rules.specs.declared.Call.{Call}
-use Rattle.rules.specs.Page.{Table, page, meant, isMeant}
-use Rattle.rules.specs.Fence.{someone}
-use Rattle.rules.specs.Refusals.{refusal, taken}
-use Rattle.rules.specs.Step.{step, run}
-use Rattle.history.specs.Reckoned.{reckon, seats}
-use Rattle.history.specs.Holders.{nobody, holds, maps, gives, given, takesBack, holding, held}
-use Rattle.history.specs.Translations.{hostTurn, hosts, guestTurn, guests}
-use Rattle.history.specs.Waiting.{Watch, globally, forTvm, watching, Turned, watch}
-use Rattle.rules.proofs.Accepted.{at-number}
-
--- sixteen records of no kind, which open makes ordinary
-abbrev lent : Table
-lent = record { bytes = 128; page = λ i. page 9 0 0 0 }
-
-abbrev on : ℕ → ℕ → ℕ → ℕ → ℕ → ℕ → ℕ → Call
-on h n x y z u v = record { number = n; hart = h; a0 = x; a1 = y; a2 = z; a3 = u; a4 = v; a5 = 0 }
-
--- open for two harts; convert eight pages
-abbrev opening : List Call
-opening = on 0 33 2 16 0 0 0 ∷ []
-
-abbrev convert : Call
-convert = on 0 1 0x80000000 8 0 0 0
-
--- a fence, and a local one; create, region, vCPU, finalize; zero one page at guest page 17; hart 0 enters
-abbrev fences : List Call
-fences = on 0 3 0 0 0 0 0 ∷ on 1 4 0 0 0 0 0 ∷ []
-
-abbrev guest : List Call
-guest =
-    opening ++ (convert ∷ fences)
-    ++ (on 0 5 0x80000000 0x80004000 0 0 0 ∷ on 0 9 0 0x10000 0x8000 0 0 ∷ on 0 14 0 0 0x80005000 0 0 ∷ on 0 6 0 0 0 0 0 ∷ on 0 12 0 0x80006000 0 1 0x11000
-    ∷ on 0 15 0 0 0 0 0 ∷ [])
-
--- hart 1 blocks the page
-abbrev block : Call
-block = on 1 17 0 0x11000 0x1000 0 0
+use Rattle.rules.specs.declared.Answer.{Answer}
+use Rattle.rules.specs.declared.Answer.the-variants.{Accepted, Refused}
+use Rattle.rules.specs.Step.{step}
+use Rattle.history.specs.Demand3.{nobody, holds, maps, held, hosts, guests, Watch, globally, forTvm, Turned, later, watch, ended, needs}
+use Rattle.history.proofs.Played.{lent, on, opening, convert, fences, guest, block, opened-all}
 
 -- what is told of a watch: whether it lasts, whether waiting is over
 abbrev says : Watch → List Bool
-says w = w .lasts ∷ (w .begun && not (someone (w .owing))) ∷ []
+says w = w .lasts ∷ ended w ∷ []
 
 abbrev converted : List Call → List Bool
 converted ds = says (watch globally 1 6 lent opening convert ds)
 
 abbrev blocked : List Call → List Bool
 blocked ds = says (watch (forTvm 0) 8 6 lent guest block ds)
-
-opened-all : Unit {0}
-unfolding at-number any count lowest meant isMeant refusal taken step run reckon seats gives given takesBack holding hostTurn guestTurn watching
-opened-all = tt
 
 who-holds : (held lent guest 0 ≡ holds 0) × (held lent guest 6 ≡ maps 0 17) × (held lent guest 7 ≡ nobody)
 unfolding opened-all
@@ -86,3 +48,17 @@ blocked-ends : (blocked (on 1 16 0 0 0 0 0 ∷ []) ≡ true ∷ false ∷ []) ×
     × (blocked (on 1 16 0 0 0 0 0 ∷ on 0 32 0 0 0 0 0 ∷ on 1 19 0 0x11000 0x1000 0 0 ∷ []) ≡ false ∷ true ∷ [])
 unfolding opened-all
 blocked-ends = (refl, refl, refl)
+
+-- reclaim needs the page that was converted, remove the one that was blocked: refused 7 while these wait, and accepted afterwards
+abbrev answers : List Call → Call → List Call → Call → Answer
+answers cs c ds d = step (later lent cs c ds) d .answer
+
+reclaim-waits : (needs (later lent opening convert []) (on 0 2 0x80006000 1 0 0 0) 6 ≡ true) × (answers opening convert [] (on 0 2 0x80006000 1 0 0 0) ≡ Refused 7)
+    × (answers opening convert fences (on 0 2 0x80006000 1 0 0 0) ≡ Accepted 0)
+unfolding opened-all
+reclaim-waits = (refl, refl, refl)
+
+remove-waits : (needs (later lent guest block []) (on 1 19 0 0x11000 0x1000 0 0) 6 ≡ true) × (answers guest block [] (on 1 19 0 0x11000 0x1000 0 0) ≡ Refused 7)
+    × (answers guest block (on 1 16 0 0 0 0 0 ∷ on 0 32 0 0 0 0 0 ∷ []) (on 1 19 0 0x11000 0x1000 0 0) ≡ Accepted 0)
+unfolding opened-all
+remove-waits = (refl, refl, refl)

@@ -11,14 +11,13 @@ use Rattle.sets.proofs.Bools.{and-right}
 use Rattle.rules.specs.declared.Call.{Call}
 use Rattle.rules.specs.declared.Role.the-variants.{Tvm}
 use Rattle.rules.specs.Page.{Table, page, moved, guestPage}
-use Rattle.rules.specs.Fence.{begin}
+use Rattle.rules.specs.Fence.{begin, done}
 use Rattle.rules.specs.Ledger.{Ledger, Slot, isOpen, isInSlot, insidersOf, withFence}
 use Rattle.rules.specs.Calls.{arg, index, size, firstGuest}
 use Rattle.rules.specs.Refusals.{taken, theOne, mapped}
 use Rattle.rules.specs.Effects.{table, ledger, writes, destroyed}
 use Rattle.rules.specs.Step.{State}
-use Rattle.history.specs.Reckoned.{after}
-use Rattle.history.specs.Waiting.{Watch, forTvm, watching, BlockedWaits}
+use Rattle.history.specs.Demand3.{after, Watch, forTvm, watching, notDone, BlockedWaits}
 use Rattle.rules.proofs.Accepted.{call, Passed, not-again, as-wanted, at-number}
 use Rattle.history.proofs.Runs.{accepted}
 use Rattle.history.proofs.Spans.{at-guest, meant-is, put-field}
@@ -136,6 +135,10 @@ starts p l t c q old now = (open-then l t (call 17 c) q refl, go (writes l t (ca
     go true e = record { kind-is = refl; slot-is = refl; version-is = refl; inv = before refl refl }
     go false e = absurd (true≢false (sym e ∙ old))
 
+by-slot : (p k : ℕ) (s : State) → s .table .page p .kind ≡ 8 → s .table .page p .slot ≡ k → notDone (s .ledger) (s .table .page p) ≡ not (done (s .ledger .slot k .fence) (s .table .page p .version))
+unfolding notDone
+by-slot p k s e f = rw (e, f)
+
 pub blocked-waits : BlockedWaits
 blocked-waits t cs c p ds n turned =
     let s : State = after t cs in
@@ -143,4 +146,4 @@ blocked-waits t cs c p ds n turned =
     let r = s .ledger .slot k .fence .version in
     let d = accepted s c (turned .value) (turned .accepted) in
     let first = subst (Starts p (s .ledger) (s .table)) (ap (λ j. call j c) (sym n)) (starts p (s .ledger) (s .table) c) (d .passes) (turned .before) (rw (d .table-is) at (turned .now)) in
-    waits (forTvm k) (λ l. l .slot k .fence) 8 p k r (fates p k r) t cs c ds turned (rw (d .ledger-is) (first .0)) (rw (d .ledger-is, d .table-is) (first .1))
+    waits (forTvm k) (λ l. l .slot k .fence) 8 p k r (fates p k r) (by-slot p k) t cs c ds turned (rw (d .ledger-is) (first .0)) (rw (d .ledger-is, d .table-is) (first .1))

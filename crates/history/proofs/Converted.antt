@@ -6,17 +6,16 @@ use mathlib.Core.Bool.{Bool, true, false, cond, not, _&&_, true≢false}
 use native.Mathlib.Omega.{arith}
 use lib.Dec.{ltb, eqb}
 use Rattle.sets.specs.Terms.{within}
-use Rattle.sets.proofs.Bools.{or-left}
+use Rattle.sets.proofs.Bools.{or-left, or-false}
 use Rattle.rules.specs.declared.Call.{Call}
 use Rattle.rules.specs.Page.{Table, page}
-use Rattle.rules.specs.Fence.{someone}
+use Rattle.rules.specs.Fence.{someone, done}
 use Rattle.rules.specs.Ledger.{Ledger, isOpen, othersOf}
 use Rattle.rules.specs.Calls.{index}
 use Rattle.rules.specs.Refusals.{taken}
 use Rattle.rules.specs.Effects.{table, ledger, writes}
 use Rattle.rules.specs.Step.{State}
-use Rattle.history.specs.Reckoned.{after}
-use Rattle.history.specs.Waiting.{Watch, globally, watching, ConvertedWaits}
+use Rattle.history.specs.Demand3.{after, Watch, globally, watching, notDone, ConvertedWaits}
 use Rattle.rules.proofs.Accepted.{call, Passed, not-again, at-number}
 use Rattle.history.proofs.Runs.{accepted}
 use Rattle.history.proofs.Spans.{host-ordinary}
@@ -83,10 +82,14 @@ starts p l t c q old now = (open-then l t (call 1 c) q refl, go (writes l t (cal
     go true e = record { kind-is = refl; slot-is = refl; version-is = refl; inv = before refl refl }
     go false e = absurd (true≢false (sym e ∙ old))
 
+by-global : (p : ℕ) (s : State) → s .table .page p .kind ≡ 1 → s .table .page p .slot ≡ 0 → notDone (s .ledger) (s .table .page p) ≡ not (done (s .ledger .global) (s .table .page p .version))
+unfolding notDone
+by-global p s e f = rw e (or-false _)
+
 pub converted-waits : ConvertedWaits
 converted-waits t cs c p ds n turned =
     let s : State = after t cs in
     let d = accepted s c (turned .value) (turned .accepted) in
     let first = subst (Starts p (s .ledger) (s .table)) (ap (λ k. call k c) (sym n)) (starts p (s .ledger) (s .table) c) (d .passes) (turned .before) (rw (d .table-is) at (turned .now)) in
     let r = s .ledger .global .version in
-    waits globally (λ l. l .global) 1 p 0 r (fates p r) t cs c ds turned (rw (d .ledger-is) (first .0)) (rw (d .ledger-is, d .table-is) (first .1))
+    waits globally (λ l. l .global) 1 p 0 r (fates p r) (by-global p) t cs c ds turned (rw (d .ledger-is) (first .0)) (rw (d .ledger-is, d .table-is) (first .1))

@@ -21,8 +21,7 @@ use Rattle.rules.specs.Calls.{freeSpans, size, firstGuest}
 use Rattle.rules.specs.Refusals.{taken, theOne, mapped}
 use Rattle.rules.specs.Effects.{table, ledger, value, writes, written, entered, destroyed}
 use Rattle.rules.specs.Step.{unopened}
-use Rattle.history.specs.Reckoned.{after, Seats, nowhere, seats}
-use Rattle.history.specs.Translations.{GuestView, flushed, mayFill, guestTurn, guests, GuestSafe}
+use Rattle.history.specs.Demand3.{after, Seats, nowhere, seats, GuestView, flushed, mayFill, guestTurn, guests, GuestSafe}
 use Rattle.rules.proofs.Accepted.{call, ByCall, by-call, Passed, as-wanted, none-inside, at-number}
 use Rattle.history.proofs.Runs.{EachKeeps, kept}
 use Rattle.history.proofs.Spans.{isOf, free-counts, host-ordinary, at-guest, Meant, meant-is, put-field}

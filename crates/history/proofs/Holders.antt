@@ -3,7 +3,7 @@
 -- Assumes nothing.
 use Prim.Native.Nat.{ℕ, _+_, _-_, _*_, _%_, _≤_, _<_}
 use mathlib.Core.Path.{_≡_, refl, sym, _∙_, ap}
-use mathlib.Core.Bool.{Bool, true, false, cond, _&&_, true≢false}
+use mathlib.Core.Bool.{Bool, true, false, cond, _&&_, _||_, true≢false}
 use mathlib.Core.List.{List}
 use native.Mathlib.Omega.{arith}
 use lib.Dec.{ltb, eqb}
@@ -21,8 +21,7 @@ use Rattle.rules.specs.Calls.{names, arg, size, firstGuest, index, freeSpans}
 use Rattle.rules.specs.Refusals.{refuses11, taken, mapped, anyGuest}
 use Rattle.rules.specs.Effects.{table, ledger, writes, written, mapping}
 use Rattle.rules.specs.Step.{unopened}
-use Rattle.history.specs.Reckoned.{after}
-use Rattle.history.specs.Holders.{Held, nobody, holds, maps, isHeldBy, isGivenAt, isGiving, gives, given, takesBack, holding, held, HoldersAgree, GivenUnheld, OneClaim}
+use Rattle.history.specs.Demand3.{after, Held, nobody, holds, maps, isHeldBy, isGivenAt, gives, given, takesBack, holding, held, HoldersAgree, GivenUnheld, OneClaim}
 use Rattle.rules.proofs.Accepted.{call, by-call, Passed, guest-ends, at-number}
 use Rattle.history.proofs.Runs.{Keeps, EachKeeps, kept, accepted}
 use Rattle.history.proofs.Spans.{in-range, isOf, free-below, free-counts, host-ordinary, at-guest, meant-is}
@@ -269,9 +268,10 @@ pub given-unheld : GivenUnheld
 unfolding gives
 given-unheld t cs c v p a g =
     let d = accepted (after t cs) c v a in
+    let n = c .number in
     let l = after t cs .ledger in
     let u = after t cs .table in
-    let w = and-right (isGiving (c .number)) (isOf (freeSpans c) p) g in
+    let w = and-right (eqb n 5 || eqb n 10 || eqb n 11 || eqb n 12 || eqb n 14) (isOf (freeSpans c) p) g in
     whole t cs .agree p ∙ rw (lt-ltb p (l .pages) (free-below l u c (d .passes) p w)) (sym (held-free (l .global) (u .page p) (free-counts l u c (d .passes) p w)))
 
 pub one-claim : OneClaim

@@ -18,9 +18,7 @@ use Rattle.rules.specs.Ledger.{Ledger, Hart, isOutside, othersOf}
 use Rattle.rules.specs.Calls.{freeSpans, size, firstGuest}
 use Rattle.rules.specs.Effects.{table, ledger, value, writes, written}
 use Rattle.rules.specs.Step.{unopened}
-use Rattle.history.specs.Reckoned.{after, Seats, nowhere, seats}
-use Rattle.history.specs.Holders.{countsFree}
-use Rattle.history.specs.Translations.{HostView, mayLoad, drops, hostTurn, hosts, HostSafe}
+use Rattle.history.specs.Demand3.{after, Seats, nowhere, seats, countsFree, HostView, mayLoad, drops, hostTurn, hosts, HostSafe}
 use Rattle.rules.proofs.Accepted.{call, ByCall, by-call, Passed, at-number}
 use Rattle.history.proofs.Runs.{EachKeeps, kept}
 use Rattle.history.proofs.Spans.{isOf, free-counts, meant-is}

@@ -6,9 +6,12 @@ pub mod Holders
 pub mod Seats
 pub mod Host
 pub mod Watch
+pub mod Needed
 pub mod Marks
 pub mod Guest
 pub mod Waiting
 pub mod Converted
 pub mod Blocked
+pub mod Demand3
+pub mod Played
 pub mod Alive

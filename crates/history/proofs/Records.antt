@@ -12,7 +12,7 @@ use Rattle.sets.proofs.Bools.{and-left, and-right, or-cases}
 use Rattle.rules.specs.declared.Page.{Page}
 use Rattle.rules.specs.Page.{guestPage, guestWord, isGiven, isMapped, claims}
 use Rattle.rules.specs.Fence.{Tracker, done}
-use Rattle.history.specs.Holders.{Held, nobody, holds, maps, countsFree, isHeldBy, isGivenAt}
+use Rattle.history.specs.Demand3.{Held, nobody, holds, maps, countsFree, isHeldBy, isGivenAt}
 
 abbrev pub heldOf : Page → Held
 heldOf p = cond (isMapped p) (maps (p .slot) (guestPage p)) (cond (isGiven p) (holds (p .slot)) nobody)

@@ -12,7 +12,7 @@ use Rattle.rules.specs.Ledger.{Ledger}
 use Rattle.rules.specs.Refusals.{refusal, refuses1}
 use Rattle.rules.specs.Effects.{table, ledger, value}
 use Rattle.rules.specs.Step.{State, Outcome, settle, step, run}
-use Rattle.history.specs.Reckoned.{heed, reckon}
+use Rattle.history.specs.Demand3.{heed, reckon}
 use Rattle.rules.proofs.Accepted.{call, Every, Passed, passed}
 
 module _ {G : Type 0} (f : Call → ℕ → Table → G → G) (I : G → Ledger → Table → Type 0) where

@@ -11,7 +11,7 @@ use Rattle.rules.specs.declared.Call.{Call}
 use Rattle.rules.specs.Page.{Table}
 use Rattle.rules.specs.Step.{step, unopened}
 use Rattle.rules.specs.declared.Answer.the-variants.{Accepted}
-use Rattle.history.specs.Reckoned.{after, heed, Seats, nowhere, seats, seated}
+use Rattle.history.specs.Demand3.{after, heed, Seats, nowhere, seats, seated}
 use Rattle.rules.specs.Ledger.{Ledger, isOpen, Hart, outside}
 use Rattle.rules.specs.Effects.{ledger, entered}
 use Rattle.rules.proofs.Accepted.{call, Every, by-call, Passed, opened-before, not-again, hart-counted, at-number}

@@ -4,11 +4,11 @@
 use Prim.Native.Nat.{ℕ, _+_, _-_, _*_, _%_, _≤_, _<_}
 use mathlib.Core.Path.{_≡_, refl, sym, _∙_, ap}
 use mathlib.Core.Logic.{_⊎_, inl, inr}
-use mathlib.Core.Bool.{Bool, true, false, cond, not, _&&_, _||_, true≢false, false≢true}
+use mathlib.Core.Bool.{Bool, true, false, cond, not, _&&_, _||_, true≢false, false≢true, or-true}
 use mathlib.Core.List.{List, [], _∷_, map}
 use native.Mathlib.Omega.{arith}
 use lib.Dec.{ltb, leb, eqb}
-use borrow.Author.Tests.{ltb-true, ltb-false, leb-true, eqb-true, not-false}
+use borrow.Author.Tests.{ltb-true, ltb-false, leb-true, lt-ltb, le-leb, eqb-true, not-false}
 use Rattle.sets.specs.Terms.{oneOf, oneFrom, anyIn, within, put}
 use Rattle.sets.specs.Look.{any, lowest}
 use Rattle.sets.proofs.Bools.{or-left, or-right, or-cases, or-false, or-assoc, and-left, and-right}
@@ -21,7 +21,7 @@ use Rattle.rules.specs.Fence.{done}
 use Rattle.rules.specs.Ledger.{Ledger}
 use Rattle.rules.specs.Calls.{Span, memory, index, freeSpans, hostSpans, size, firstGuest}
 use Rattle.rules.specs.Refusals.{refuses5, refuses6, refuses7, misplaced, anyPage, anyGuest}
-use Rattle.history.specs.Holders.{countsFree}
+use Rattle.history.specs.Demand3.{countsFree}
 use Rattle.rules.proofs.Accepted.{Passed}
 
 -- ---- one of a list
@@ -49,7 +49,21 @@ find-one {A} p r q (x ∷ xs) e f g =
     go (inl h) u v w = (x, u, v, h)
     go (inr h) u v w = w h
 
+-- an element that passes p, and a number that passes both q of that element and r
+pub find-number : {A : Type 0} (p : A → Bool) (q : A → ℕ → Bool) (r : ℕ → Bool) → ((x : A) → p x ≡ true → (i : ℕ) × (q x i ≡ true) × (r i ≡ true))
+    → (xs : List A) → anyIn p xs ≡ true → (i : ℕ) × (anyIn (λ x. q x i) xs ≡ true) × (r i ≡ true)
+find-number p q r f [] e = absurd (false≢true (unfold oneOf in e))
+find-number {A} p q r f (x ∷ xs) e = go (or-cases (p x) (oneOf (map p xs)) (sym (one-head (p x) (map p xs)) ∙ e)) (find-number p q r f xs)
+  where
+    go : (p x ≡ true) ⊎ (oneOf (map p xs) ≡ true) → (anyIn p xs ≡ true → (i : ℕ) × (anyIn (λ y. q y i) xs ≡ true) × (r i ≡ true))
+        → (i : ℕ) × (anyIn (λ y. q y i) (x ∷ xs) ≡ true) × (r i ≡ true)
+    go (inl h) g = let (i, u, v) = f x h in (i, one-head (q x i) (map (λ y. q y i) xs) ∙ rw u, v)
+    go (inr h) g = let (i, u, v) = g h in (i, one-head (q x i) (map (λ y. q y i) xs) ∙ rw u (or-true (q x i)), v)
+
 -- ---- a page of a span
+pub to-range : (first n j : ℕ) → j < n → within first n (first + j) ≡ true
+to-range first n j e = rw (le-leb first (first + j) (omega arith)) (lt-ltb (first + j) (first + n) (omega arith))
+
 pub in-range : (first n i : ℕ) → within first n i ≡ true → (j : ℕ) × (j < n) × (i ≡ first + j)
 in-range first n i e =
     let u : first ≤ i = leb-true first i (and-left (leb first i) (ltb i (first + n)) e) in
@@ -90,14 +104,17 @@ module _ (l : Ledger) (t : Table) (c : Call) where
       let (s, x, y, z) = find-one (misplaced l t c) (misplaced l t c) (λ s. within (index (s .base)) (s .pages) i) (freeSpans c) (one-off _ (p .p5) 1) (one-off _ (p .p5) 1) w in
       placed s i x z
 
-  pub free-counts : Passed l t c → (i : ℕ) → isOf (freeSpans c) i ≡ true → countsFree (l .global) (t .page i) ≡ true
+  pub neither-free : refuses6 l t c ≡ false → refuses7 l t c ≡ false → (i : ℕ) → isOf (freeSpans c) i ≡ true → countsFree (l .global) (t .page i) ≡ true
   unfolding refuses6 refuses7
-  free-counts p i w =
+  neither-free p6 p7 i w =
       let wanted : Page → Bool = λ q. not (isFree q) in
       let waits : Page → Bool = λ q. eqb (q .kind) 1 && not (done (l .global) (q .version)) in
-      let (s, x, y, z) = find-one (anyPage l t c wanted) (anyPage l t c waits) (λ s. within (index (s .base)) (s .pages) i) (freeSpans c) (one-off _ (p .p6) 1) (or-left _ _ (p .p7)) w in
+      let (s, x, y, z) = find-one (anyPage l t c wanted) (anyPage l t c waits) (λ s. within (index (s .base)) (s .pages) i) (freeSpans c) (one-off _ p6 1) (or-left _ _ p7) w in
       counts (eqb (t .page i .kind) 1) (eqb (t .page i .kind) 2) (done (l .global) (t .page i .version))
       (on-span wanted (t .page) (index (s .base)) (s .pages) i x z) (on-span waits (t .page) (index (s .base)) (s .pages) i y z)
+
+  pub free-counts : Passed l t c → (i : ℕ) → isOf (freeSpans c) i ≡ true → countsFree (l .global) (t .page i) ≡ true
+  free-counts p = neither-free (p .p6) (p .p7)
 
   pub host-below : Passed l t c → (i : ℕ) → isOf (hostSpans c) i ≡ true → i < l .pages
   unfolding refuses5

@@ -2,8 +2,8 @@
 -- fence and the watch alike.
 -- Assumes nothing.
 use Prim.Native.Nat.{ℕ}
-use mathlib.Core.Path.{_≡_, _∙_, ap}
-use mathlib.Core.Bool.{Bool, true, false, cond, _&&_}
+use mathlib.Core.Path.{_≡_, sym, _∙_, ap}
+use mathlib.Core.Bool.{Bool, true, false, cond, not, _&&_, true≢false}
 use mathlib.Core.List.{List}
 use lib.Dec.{eqb}
 use Rattle.sets.proofs.Bools.{and-left, and-right}
@@ -13,13 +13,13 @@ use Rattle.rules.specs.Page.{Table}
 use Rattle.rules.specs.Fence.{Harts, Tracker, done}
 use Rattle.rules.specs.Ledger.{Ledger, isOpen}
 use Rattle.rules.specs.Effects.{table, ledger, value, writes, written}
-use Rattle.rules.specs.Step.{step}
-use Rattle.history.specs.Reckoned.{after, seats, seated}
-use Rattle.history.specs.Waiting.{Fencing, Watch, watching, Turned, later, watch, Waits}
+use Rattle.rules.specs.Step.{State, step}
+use Rattle.history.specs.Demand3.{after, seats, seated, Fencing, Watch, watching, Turned, later, watch, ended, notDone, Waits}
 use Rattle.rules.proofs.Accepted.{call, ByCall, by-call, Passed}
 use Rattle.history.proofs.Runs.{EachKeeps, kept}
 use Rattle.history.proofs.Seats.{SeatedIn, seats-kept, open-kept, seated-then}
 use Rattle.history.proofs.Watch.{Inv, inv-done, unwritten}
+use Rattle.history.proofs.Needed.{needed, blamed}
 
 -- the record is the one that the call wrote, and the watch agrees with the tracker
 pub record Live (m k r : ℕ) (f : Tracker) (begun : Bool) (owing : Harts) (q : Page) : Type 0 where
@@ -78,12 +78,27 @@ module _ (f : Fencing) (fence : Ledger → Tracker) (m p k r : ℕ) where
     keep w l t c s n b q =
         one w l t (call n c) s (seats-kept (w .seats) l t c (s .sits) n b q) (open-kept (w .seats) l t c (s .sits) n b q (s .is-open)) (by-call _ (fates w l t c s) n b q)
 
-    pub waits : (t : Table) (cs : List Call) (c : Call) (ds : List Call) → Turned m t cs c p → isOpen (step (after t cs) c .after .ledger) ≡ true
-        → Live m k r (fence (step (after t cs) c .after .ledger)) false (λ j. false) (step (after t cs) c .after .table .page p) → Waits f fence m t cs c p ds
-    waits t cs c ds turned o first lasts =
-        let w = watch f m p t cs c ds in
-        let l = later t cs c ds .ledger in
-        let whole : I w l (later t cs c ds .table)
-        = kept (watching f m p) I keep (record { seats = seats c (seated t cs); lasts = true; begun = false; owing = λ j. false }) (step (after t cs) c .after) ds
-        (record { sits = seated-then t cs c (turned .value) (turned .accepted); is-open = o; live = λ e. first }) in
-        ap (done (fence l)) (whole .live lasts .version-is) ∙ inv-done r (fence l) (w .begun) (w .owing) (whole .live lasts .inv)
+    -- by the page's kind and slot, that is the fence that counts
+    module _ (counts : (s : State) → s .table .page p .kind ≡ m → s .table .page p .slot ≡ k → notDone (s .ledger) (s .table .page p) ≡ not (done (fence (s .ledger)) (s .table .page p .version))) where
+      ends : (s : State) (w : Watch) → Live m k r (fence (s .ledger)) (w .begun) (w .owing) (s .table .page p) → Waits fence p s w
+      ends s w v = record {
+        done-when = when;
+        refused-before = λ e d n. needed s d p n (still ∙ ap not e);
+        other-after = λ e d a. let (q, n, u) = blamed s d a in (q, λ z. true≢false (sym u ∙ ap (λ i. notDone (s .ledger) (s .table .page i)) z ∙ still ∙ ap not e), n, u);
+      }
+        where
+          when : done (fence (s .ledger)) (s .table .page p .version) ≡ ended w
+          when = ap (done (fence (s .ledger))) (v .version-is) ∙ inv-done r (fence (s .ledger)) (w .begun) (w .owing) (v .inv)
+
+          still : notDone (s .ledger) (s .table .page p) ≡ not (ended w)
+          still = counts s (v .kind-is) (v .slot-is) ∙ ap not when
+
+      pub waits : (t : Table) (cs : List Call) (c : Call) (ds : List Call) → Turned m t cs c p → isOpen (step (after t cs) c .after .ledger) ≡ true
+          → Live m k r (fence (step (after t cs) c .after .ledger)) false (λ j. false) (step (after t cs) c .after .table .page p)
+          → watch f m p t cs c ds .lasts ≡ true → Waits fence p (later t cs c ds) (watch f m p t cs c ds)
+      waits t cs c ds turned o first lasts =
+          let w = watch f m p t cs c ds in
+          let whole : I w (later t cs c ds .ledger) (later t cs c ds .table)
+          = kept (watching f m p) I keep (record { seats = seats c (seated t cs); lasts = true; begun = false; owing = λ j. false }) (step (after t cs) c .after) ds
+          (record { sits = seated-then t cs c (turned .value) (turned .accepted); is-open = o; live = λ e. first }) in
+          ends (later t cs c ds) w (whole .live lasts)

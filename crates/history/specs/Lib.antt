@@ -1,4 +1,1 @@
-pub mod Reckoned
-pub mod Holders
-pub mod Translations
-pub mod Waiting
+pub mod Demand3

@@ -8,17 +8,20 @@ use mathlib.Core.List.{List}
 use native.Mathlib.Omega.{arith}
 use lib.Dec.{ltb, leb, eqb}
 use lib.ListN.{length, getD}
-use borrow.Author.Tests.{eqb-true}
-use Rattle.sets.specs.Terms.{oneOf, oneFrom}
-use Rattle.sets.proofs.Bools.{or-cases}
+use borrow.Author.Tests.{eqb-true, not-false}
+use Rattle.sets.specs.Terms.{oneOf, oneFrom, within}
+use Rattle.sets.proofs.Bools.{or-cases, and-left, and-right, and-off}
+use Rattle.sets.proofs.OneOf.{one-off}
 use Rattle.rules.specs.declared.Call.{Call}
 use Rattle.rules.specs.declared.Role.{Role}
-use Rattle.rules.specs.declared.Role.the-variants.{Tvm, Vcpu, HostBase, FreeBase, DirectoryBase, UnitCount, UnitType, GuestBase, ByteLength}
+use Rattle.rules.specs.declared.Role.the-variants.{Tvm, Vcpu, HostBase, FreeBase, DirectoryBase, UnitCount, UnitType, GuestBase, PageCount}
 use Rattle.rules.specs.Calls.{code, entryOf, opens, moves, names, arg, size, memory, index}
+use Rattle.rules.specs.Page.{fits}
+use Rattle.rules.specs.Refusals.{refuses4}
 use Rattle.rules.specs.Encoding.{view, pagesOf}
-use Rattle.rules.proofs.CallTable.{each, isNamed, with-it, not-that}
+use Rattle.rules.proofs.CallTable.{each, isNamed, with-it, named-at, not-that}
 use Rattle.rules.proofs.Accepted.{Early, not-early}
-use Rattle.rules.proofs.Bounds.{Placed, slot-in, table-is, few-pages, hart-low, size-in, vcpu-in, host-in, free-in, directory-in, guest-in}
+use Rattle.rules.proofs.Bounds.{Placed, in-within, fits-is, slot-in, table-is, few-pages, hart-low, size-in, vcpu-in, host-in, free-in, directory-in, guest-in}
 use Rattle.refusals.specs.Asked.{Asked}
 use Rattle.refusals.specs.Ready.{Ready}
 use Rattle.refusals.specs.Sights.{InTable}
@@ -57,12 +60,12 @@ typed-not-9 c n = not-that 9 UnitType c refl n
 
 -- ---- 9, a region
 pub region-guest : (c : Call) → c .number ≡ 9 → names GuestBase c ≡ true
-unfolding names entryOf oneOf oneFrom
-region-guest c e = rw e
+unfolding entryOf oneOf oneFrom
+region-guest c e = named-at 9 GuestBase c e
 
 pub region-untyped : (c : Call) → c .number ≡ 9 → names UnitType c ≡ false
-unfolding names entryOf oneOf oneFrom
-region-untyped c e = rw e
+unfolding entryOf oneOf oneFrom
+region-untyped c e = named-at 9 UnitType c e
 
 -- ---- no call on pages opens
 pub guest-not-open : (c : Call) → names GuestBase c ≡ true → opens c ≡ false
@@ -124,3 +127,13 @@ module _ {ws b : List ℕ} {c : Call} {a : List ℕ} {pages : ℕ} (r : Ready ws
 
   pub directory-fits : names DirectoryBase c ≡ true → (memory ≤ getD a 5 0) × (8 * (index (getD a 5 0) + 4) ≤ length b)
   directory-fits n = rw (r .asked .value DirectoryBase) (in-table (arg DirectoryBase c) 4 (directory-not-open c n) (directory-in (view ws) (pagesOf b) c early-of n))
+
+  -- open has the table's own length
+  pub opening-fits : opens c ≡ true → (8 * getD a 11 0 ≤ length b) × (getD a 11 0 ≤ 4096)
+  unfolding pagesOf refuses4
+  opening-fits o =
+      let n = arg PageCount c in
+      let x = not-false (within 1 4096 n && fits (pagesOf b) n) (and-off (opens c) (not (within 1 4096 n && fits (pagesOf b) n)) (one-off _ (early-of .e4) 11) o) in
+      let h = in-within 1 4096 n (and-left (within 1 4096 n) (fits (pagesOf b) n) x) in
+      let e : length b ≡ 8 * n = fits-is (pagesOf b) n (and-right (within 1 4096 n) (fits (pagesOf b) n) x) in
+      rw (r .asked .value PageCount) (omega (arith, e), omega (arith, h .1))

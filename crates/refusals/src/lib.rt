@@ -2,7 +2,7 @@
 // from one look. `refusal` gives the lowest that holds.
 pub mod asked;
 mod claimed;
-mod early;
+pub mod early;
 mod fencing;
 pub mod number;
 pub mod places;

@@ -133,6 +133,9 @@ passed l t c e =
       p15 = u .1 .1 .1 .1 .0;
     }
 
+pub early-of : (l : Ledger) (t : Table) (c : Call) → Passed l t c → Early l t c
+early-of l t c p = record { e1 = p .p1; e2 = p .p2; e3 = p .p3; e4 = p .p4; e5 = p .p5 }
+
 -- ---- parts of the long conditions
 module _ (l : Ledger) (t : Table) (c : Call) (p : Passed l t c) where
   pub opened-before : (not (opens c) && not (isOpen l)) ≡ false

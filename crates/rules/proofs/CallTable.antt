@@ -8,7 +8,7 @@ use native.Mathlib.Omega.{arith}
 use lib.Dec.{leb, ltb, eqb}
 use lib.ListN.{length, getD, length-map, List·getD-eq-default}
 use borrow.Author.Tests.{eqb-true, ne-eqb, leb-true, ltb-true}
-use Rattle.sets.specs.Terms.{anyIn}
+use Rattle.sets.specs.Terms.{oneOf, anyIn}
 use Rattle.sets.specs.Look.{all}
 use Rattle.sets.proofs.Bools.{by-test, and-left, and-right}
 use Rattle.sets.proofs.Looks.{all-at}
@@ -139,6 +139,25 @@ both r s e = cond (isNamed r e) (isNamed s e) true
 pub with-it : (r s : Role) → each (both r s) calls ≡ true → both r s (entry 0 [] noPhase) ≡ true → (c : Call) → names r c ≡ true → names s c ≡ true
 unfolding names
 with-it r s f h c e = let g = of-table (both r s) h f (c .number) in subst (λ (b : Bool). cond b (names s c) true ≡ true) e g
+
+-- what a call of a known number names
+pub named-at : (n : ℕ) (r : Role) (c : Call) → c .number ≡ n → names r c ≡ isNamed r (entryOf n)
+unfolding names
+named-at n r c e = ap (λ (k : ℕ). isNamed r (entryOf k)) e
+
+-- a call that names the role is one of those that do
+pub among : (r : Role) (ns : List ℕ) → each (λ e. cond (isNamed r e) (anyIn (eqb (e .number)) ns) true) calls ≡ true → (c : Call) → names r c ≡ true → anyIn (eqb (c .number)) ns ≡ true
+unfolding names entryOf each oneOf
+among r ns f c n = go calls f n
+  where
+    go : (es : List Entry) → each (λ e. cond (isNamed r e) (anyIn (eqb (e .number)) ns) true) es ≡ true → isNamed r (find (c .number) es) ≡ true → anyIn (eqb (c .number)) ns ≡ true
+    go [] f n = absurd (true≢false (sym n))
+    go (e ∷ es) f n =
+        by-test (eqb (c .number) (e .number))
+        (λ q. let here : isNamed r e ≡ true = subst (λ (b : Bool). isNamed r (cond b e (find (c .number) es)) ≡ true) q n in
+        let g : cond (isNamed r e) (anyIn (eqb (e .number)) ns) true ≡ true = and-left _ (each (λ e. cond (isNamed r e) (anyIn (eqb (e .number)) ns) true) es) f in
+        rw (eqb-true (c .number) (e .number) q) (subst (λ (b : Bool). cond b (anyIn (eqb (e .number)) ns) true ≡ true) here g))
+        (λ q. go es (and-right (cond (isNamed r e) (anyIn (eqb (e .number)) ns) true) _ f) (subst (λ (b : Bool). isNamed r (cond b e (find (c .number) es)) ≡ true) q n))
 
 -- a call that names the role is not one that does not
 pub not-that : (n : ℕ) (r : Role) (c : Call) → isNamed r (entryOf n) ≡ false → names r c ≡ true → eqb (c .number) n ≡ false
