@@ -1,4 +1,5 @@
 -- Document 01, "The tape and its printer": what the program prints, from the bytes of a tape. Assumes nothing.
+use lib.IntN.{ℤ}
 use lib.ListN.{replicate}
 use Rattle.sets.specs.Terms.{ℕ, suc, _*_, cond, List, [], _∷_, _++_, ltb, leb, length}
 use Rattle.rules.specs.declared.Call.{Call}
@@ -11,11 +12,11 @@ use Rattle.tape.specs.Tape.{Reading, reading}
 use Rattle.lines.specs.Text.{decimal, signed, blank, newline}
 
 -- "a line for each record: number from 1, call, error, value, single blanks"
-abbrev pub told : Answer → List ℕ
-told answer = signed (errorOf answer) ++ blank ++ decimal (valueOf answer) ++ newline
+abbrev pub told : ℤ → ℕ → List ℕ
+told error value = signed error ++ blank ++ decimal value ++ newline
 
 unfoldable pub line : ℕ → ℕ → Answer → List ℕ
-line number call answer = decimal number ++ blank ++ decimal call ++ blank ++ told answer
+line number call answer = decimal number ++ blank ++ decimal call ++ blank ++ told (errorOf answer) (valueOf answer)
 
 -- "A bad record prints its number and `short` or `mark`"
 abbrev pub short : List ℕ
@@ -48,8 +49,11 @@ handed [] = 0
 handed (c ∷ cs) = cond (leb (c .a1) 4096) (c .a1) 0
 
 -- a ledger that is not open, and so many records of zero bytes
+unfoldable pub zeros : ℕ → List ℕ
+zeros bytes = replicate bytes 0
+
 abbrev pub start : ℕ → State
-start records = unopened (pagesOf (replicate (8 * records) 0))
+start records = unopened (pagesOf (zeros (8 * records)))
 
 -- "a longer tape prints `long` and nothing else; an empty one prints nothing"
 abbrev pub long : List ℕ

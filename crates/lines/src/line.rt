@@ -1,5 +1,5 @@
 // The lines of document 01.
-ghost use Prim.Native.Nat.{_+_, _≤_};
+ghost use Prim.Native.Nat.{_+_, _^_, _<_, _≤_};
 ghost use lib.ListN.{length};
 ghost use mathlib.Core.List.{_++_};
 ghost use Rattle.lines.specs.Text.{Written, blank};
@@ -24,24 +24,26 @@ fn field(out: &mut [u8], at: usize, n: u64) -> usize
 }
 
 // The error and the value, to the line's end.
-fn told(out: &mut [u8], at: usize, answer: Answer) -> usize
-    requires { ⌜ at + length (Lines·told answer) ≤ length (now out) ⌝ }
-    ensures { λ r. ⌜ Written (Lines·told answer) (now (out .entry)) at r (now (out .exit)) ⌝ }
+fn told(out: &mut [u8], at: usize, error: i64, value: u64) -> usize
+    requires { ⌜ at + length (Lines·told error value) ≤ length (now out) ⌝ }
+    ensures { λ r. ⌜ Written (Lines·told error value) (now (out .entry)) at r (now (out .exit)) ⌝ }
 {
-    let error_end = signed(out, at, error_of(answer));
+    let error_end = signed(out, at, error);
     let blank_end = put(out, error_end, b' ');
-    let value_end = decimal(out, blank_end, value_of(answer));
+    let value_end = decimal(out, blank_end, value);
     put(out, value_end, b'\n')
 }
 
-// "number from 1, call, error, value, single blanks"
+// "number from 1, call, error, value, single blanks": with no more than 4 and 3 digits before them, 33 bytes at most.
 pub fn line(out: &mut [u8], at: usize, number: u64, call: u64, answer: Answer) -> usize
-    requires { ⌜ at + length (Lines·line number call answer) ≤ length (now out) ⌝ }
-    ensures { λ r. ⌜ Written (Lines·line number call answer) (now (out .entry)) at r (now (out .exit)) ⌝ }
+    requires { ⌜ (at + 33 ≤ length (now out)) × (number < 10 ^ 4) × (call < 10 ^ 3) ⌝ }
+    ensures { λ r. ⌜ Written (Lines·line number call answer) (now (out .entry)) at r (now (out .exit)) × (r ≤ at + 33) ⌝ }
 {
+    let error = error_of(answer);
+    let value = value_of(answer);
     let number_end = field(out, at, number);
     let call_end = field(out, number_end, call);
-    told(out, call_end, answer)
+    told(out, call_end, error, value)
 }
 
 // A number and a word, as a line.
