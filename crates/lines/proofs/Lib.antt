@@ -4,3 +4,4 @@ pub mod Signs
 pub mod Sizes
 pub mod Printing
 pub mod Starts
+pub mod Promised

@@ -1,7 +1,7 @@
 -- Document 01, "The tape and its printer": what the program prints, from the bytes of a tape. Assumes nothing.
 use lib.IntN.{ℤ}
-use lib.ListN.{replicate}
-use Rattle.sets.specs.Terms.{ℕ, suc, _*_, cond, List, [], _∷_, _++_, ltb, leb, length}
+use lib.ListN.{replicate, take}
+use Rattle.sets.specs.Terms.{ℕ, suc, _*_, _≡_, cond, List, [], _∷_, _++_, ltb, leb, length, drop}
 use Rattle.rules.specs.declared.Call.{Call}
 use Rattle.rules.specs.declared.Answer.{Answer}
 use Rattle.rules.specs.Step.{State, errorOf, valueOf, unopened, answers}
@@ -62,3 +62,9 @@ long = 108 ∷ 111 ∷ 110 ∷ 103 ∷ []
 unfoldable pub printed : List ℕ → List ℕ
 printed tape =
     cond (ltb 65536 (length tape)) (long ++ newline) (linesFrom 1 (start (handed (reading tape .calls))) (reading tape))
+
+-- the first `end` bytes became what is printed, and no byte after them changed
+pub record Printed (tape before : List ℕ) (end : ℕ) (after : List ℕ) : Type 0 where
+  pub size : end ≡ length (printed tape)
+  pub first : take end after ≡ printed tape
+  pub rest : drop end after ≡ drop end before

@@ -5,7 +5,7 @@ ghost use lib.ListN.{length};
 ghost use Rattle.rules.specs.Encoding.{Called, stateOf};
 ghost use Rattle.tape.specs.Tape.{argsAt, callOf, reading};
 ghost use Rattle.lines.specs.Text.{Written};
-ghost use Rattle.lines.specs.Lines.{zeros, linesFrom, printed, handed as Lines·handed};
+ghost use Rattle.lines.specs.Lines.{zeros, linesFrom, Printed, handed as Lines·handed};
 use super::line::bad;
 use super::line::line;
 use super::text::put;
@@ -46,7 +46,8 @@ fn answered(
 // The lines of all records, and of a bad one: each call on what the last left.
 fn lines(tape: &[u8], ledger: &mut [u32; 426], table: &mut [u8], out: &mut [u8]) -> usize
     requires { ⌜ (length (now tape) ≤ 65536) × (41613 ≤ length (now out)) ⌝ }
-    ensures { λ r. ⌜ Written (linesFrom 1 (stateOf (now (ledger .entry)) (now (table .entry))) (reading (now (tape .entry)))) (now (out .entry)) 0 r (now (out .exit)) ⌝ }
+    ensures { λ r. ⌜ Written (linesFrom 1 (stateOf (now (ledger .entry)) (now (table .entry))) (reading (now (tape .entry)))) (now (out .entry)) 0 r (now (out .exit))
+        × (r ≤ length (now (out .entry))) ⌝ }
 {
     let mut number: u64 = 1;
     let mut at = 0;
@@ -87,7 +88,7 @@ fn blank_table() -> [u8; 32768]
 
 // 1,260 records fit a tape, and with a bad one there are 1,261 lines, each of 33 bytes at most.
 pub fn print(tape: &[u8], out: &mut [u8; 41613]) -> usize
-    ensures { λ r. ⌜ Written (printed (now (tape .entry))) (now (out .entry)) 0 r (now (out .exit)) ⌝ }
+    ensures { λ r. ⌜ Printed (now (tape .entry)) (now (out .entry)) r (now (out .exit)) ⌝ }
 {
     if 65536 < tape.len() {
         let end = word(out, 0, b"long");

@@ -54,7 +54,12 @@ same-length-2 c = kept (c .before .before .bad .ensures) ∙ kept (c .before .be
 returns : tie.Need-returns Inv-loop μ-loop
 returns c =
     let w = c .before .before .before .before .before .read-at in
-    ending (c .before .before .before .before .before .before .before .loop .inv .0) (w .result .step) (sym (ap (λ (x : Went). x .step) (w .ensures))) (stops (w .result .step) (c .before .before .before .before .match .keys2)) (c .before .before .bad .ensures)
+    let g = c .before .before .before .before .before .before .before .loop .inv .0 in
+    let p = c .before .before .before .before .before .before .before .before .before .before .before .pre in
+    let b = c .before .before .bad .ensures in (
+      ending g (w .result .step) (sym (ap (λ (x : Went). x .step) (w .ensures))) (stops (w .result .step) (c .before .before .before .before .match .keys2)) b,
+      omega (arith, b .place, kept (g .written), one-fits g _ (bad-size (c .before .before .before .before .before .before .before .loop .number) (w .result .step) (small-number g (p .0))) (p .0) (p .1)),
+    )
 
 answered-requires : tie.Need-answered-requires Inv-loop μ-loop
 answered-requires c κs = search needs
@@ -113,7 +118,8 @@ returns-2 c =
     let s = now (c .before .before .before .before .before .args .tape) in
     let i = c .before .loop in
     let e : stepAt s (i .at) ≡ End = rw (le-leb (length s) (i .at) (search needs)) in
-    ending (i .inv .0) End e tt (none (i .out) (i .end))
+    let g = i .inv .0 in
+    (ending g End e tt (none (i .out) (i .end)), omega (arith, kept (g .written), one-fits g 0 (omega arith) (c .before .before .before .before .before .pre .0) (c .before .before .before .before .before .pre .1)))
 
 pub lines-spec : {M : Type 1} → statement M
 lines-spec =

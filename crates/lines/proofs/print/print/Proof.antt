@@ -4,9 +4,12 @@ use mathlib.Core.Path.{_≡_, sym, ap, _∙_}
 use native.Mathlib.Omega.{arith}
 use lib.ListN.{length, take}
 use denote.Ref.{now}
-use Rattle.lines.specs.Lines.{zeros, start}
+use Rattle.rules.specs.Step.{State}
+use Rattle.tape.specs.Tape.{reading}
+use Rattle.lines.specs.Lines.{zeros, start, linesFrom}
 use Rattle.lines.proofs.Writes.{joined}
 use Rattle.lines.proofs.Starts.{length-zeros, take-zeros, started, printed-long, printed-lines}
+use Rattle.lines.proofs.Promised.{printed-is}
 use borrow.Author.Needs.{needs}
 use Rattle.lines.proofs.print.print.Statement.{statement}
 use Rattle.lines.proofs.print.print.Tie as tie
@@ -27,7 +30,9 @@ put-requires : tie.Need-put-requires
 put-requires c κs = search needs
 
 returns : tie.Need-returns
-returns c = rw (printed-long (now (c .before .before .before .before .before .before .before .args .tape)) (c .before .before .before .before .before .if1 .taken)) (joined (c .before .before .word .ensures) (c .put .ensures))
+returns c =
+    let w = joined (c .before .before .word .ensures) (c .put .ensures) in
+    printed-is (printed-long (now (c .before .before .before .before .before .before .before .args .tape)) (c .before .before .before .before .before .if1 .taken)) w (omega (arith, w .place))
 
 blank-table-requires : tie.Need-blank-table-requires
 blank-table-requires c κs = search needs
@@ -52,7 +57,8 @@ returns-2 c =
     let tape = now (c .before .before .before .before .before .before .before .before .before .args .tape) in
     let h = c .before .before .before .before .before .handed in
     let e = started (h .result) _ (handed-bytes (c .before .before .before)) ∙ ap start (h .ensures .0) in
-    rw (printed-lines tape (c .before .before .before .before .before .before .before .if1 .left), ← e) (c .before .lines .ensures)
+    let p = printed-lines tape (c .before .before .before .before .before .before .before .if1 .left) ∙ ap (λ (x : State). linesFrom 1 x (reading tape)) (sym e) in
+    printed-is p (c .before .lines .ensures .0) (c .before .lines .ensures .1)
 
 pub print-spec : {M : Type 1} → statement M
 print-spec =
