@@ -1,7 +1,6 @@
 -- The promise of the C entry leaves one reply, one ledger and one table.
 -- Assumes nothing.
 use mathlib.Core.Path.{_≡_, sym, _∙_, ap}
-use lib.IntN.{ℤ}
 use Rattle.rules.specs.Step.{errorOf, valueOf}
 use Rattle.rules.proofs.Unique.{only-one}
 use Rattle.abi.specs.Promises.{OneReply}

@@ -1,17 +1,14 @@
 -- Any run of the code's calls is a history.
 -- Assumes nothing.
 use Prim.Native.Nat.{ℕ}
-use lib.ListN.{replicate}
 use mathlib.Core.Path.{_≡_, refl, sym, _∙_, ap, ap₂}
 use mathlib.Core.List.{List, [], _∷_, _++_}
 use Rattle.rules.specs.declared.Call.{Call}
 use Rattle.rules.specs.declared.Answer.{Answer}
-use Rattle.rules.specs.Ledger.{Ledger}
 use Rattle.rules.specs.Step.{State, step, run, answers, unopened}
-use Rattle.rules.specs.Encoding.{view, pagesOf, stateOf, Called}
+use Rattle.rules.specs.Encoding.{pagesOf, stateOf}
 use Rattle.rules.proofs.Unique.{zeros-unopened}
-use Rattle.history.specs.Demand3.{after}
-use Rattle.history.specs.OfTheCode.{Ran, none-yet, one-more, AsReckoned, OfTheCode}
+use Rattle.history.specs.OfTheCode.{Ran, none-yet, one-more, OfTheCode}
 
 -- one call more, at the end
 run-last : (s : State) (cs : List Call) (c : Call) → run s (cs ++ c ∷ []) ≡ step (run s cs) c .after

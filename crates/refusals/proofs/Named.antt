@@ -1,20 +1,20 @@
 -- What the table of roles makes of a call's six arguments is what the definitions look up.
 -- Assumes nothing.
-use Prim.Native.Nat.{ℕ, zero, suc, _+_, _*_, _/_, _^_, _≤_, _<_}
+use Prim.Native.Nat.{ℕ, zero, suc, _*_, _/_, _≤_, _<_}
 use mathlib.Core.Path.{_≡_, refl, sym, _∙_, ap}
-use mathlib.Core.Bool.{Bool, true, false, cond, not, _&&_, _||_, true≢false}
+use mathlib.Core.Bool.{Bool, true, false, cond, _&&_, _||_, true≢false}
 use mathlib.Core.List.{List, [], _∷_, map}
 use native.Mathlib.Omega.{arith}
-use lib.Dec.{ltb, leb, eqb}
+use lib.Dec.{ltb, eqb}
 use lib.ListN.{length, getD, drop, set, length-set}
 use lib.Seq.{getD-set-same, getD-set-other}
-use borrow.Author.Tests.{eqb-true, eqb-false, eq-eqb, ne-eqb, lt-ltb, ltb-true}
+use borrow.Author.Tests.{eqb-true, eqb-false, ne-eqb, lt-ltb, ltb-true}
 use Rattle.sets.specs.Terms.{oneOf, oneFrom, anyIn}
 use Rattle.sets.specs.Look.{any}
 use Rattle.sets.specs.Set.{member, with, without}
 use Rattle.sets.proofs.Bools.{by-test, iff}
 use Rattle.sets.proofs.Laws.{member-with, member-without, member-none, member-past}
-use Rattle.sets.proofs.Looks.{any-one, any-hit, any-off, any-ext}
+use Rattle.sets.proofs.Looks.{any-off, any-ext}
 use Rattle.sets.proofs.OneOf.{one-off, one-none}
 use Rattle.rules.specs.declared.Role.{Role}
 use Rattle.rules.specs.declared.Role.the-variants.{Tvm, Vcpu, HostBase, FreeBase, DirectoryBase, UnitCount, UnitType, GuestBase, ByteLength, HartCount, PageCount}

@@ -1,13 +1,12 @@
 -- Two ranges of pages overlap where each begins before either ends.
 -- Assumes nothing.
-use Prim.Native.Nat.{ℕ, _+_, min, max, _<_}
+use Prim.Native.Nat.{ℕ, min, max}
 use mathlib.Core.Path.{_≡_}
 use mathlib.Core.Bool.{_&&_}
 use native.Mathlib.Omega.{arith}
 use lib.Dec.{ltb}
 use borrow.Author.Tests.{lt-ltb, ltb-true}
 use Rattle.sets.proofs.Bools.{iff, and-left, and-right}
-use Rattle.rules.specs.Ledger.{Region}
 
 pub overlap-is : (a b c d : ℕ) → (ltb a c && ltb a d && ltb b c && ltb b d) ≡ ltb (max a b) (min c d)
 overlap-is a b c d =

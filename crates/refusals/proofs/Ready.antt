@@ -1,30 +1,27 @@
 -- What refusals 1 to 5 leave, said of the words, the bytes and what the door made of the call.
 -- Assumes nothing.
 use Prim.Native.Nat.{ℕ, _+_, _*_, _/_, _≤_, _<_}
-use mathlib.Core.Path.{_≡_, refl, sym, _∙_, ap, subst}
+use mathlib.Core.Path.{_≡_, refl, sym, subst}
 use mathlib.Core.Logic.{⊎-elim}
-use mathlib.Core.Bool.{Bool, true, false, not, _&&_, _||_}
+use mathlib.Core.Bool.{true, false, not, _&&_, _||_}
 use mathlib.Core.List.{List}
 use native.Mathlib.Omega.{arith}
-use lib.Dec.{ltb, leb, eqb}
+use lib.Dec.{eqb}
 use lib.ListN.{length, getD}
 use borrow.Author.Tests.{eqb-true, not-false}
 use Rattle.sets.specs.Terms.{oneOf, oneFrom, within}
 use Rattle.sets.proofs.Bools.{or-cases, and-left, and-right, and-off}
 use Rattle.sets.proofs.OneOf.{one-off}
 use Rattle.rules.specs.declared.Call.{Call}
-use Rattle.rules.specs.declared.Role.{Role}
 use Rattle.rules.specs.declared.Role.the-variants.{Tvm, Vcpu, HostBase, FreeBase, DirectoryBase, UnitCount, UnitType, GuestBase, PageCount}
-use Rattle.rules.specs.Calls.{code, entryOf, opens, moves, names, arg, size, memory, index}
+use Rattle.rules.specs.Calls.{entryOf, opens, moves, names, arg, size, memory, index}
 use Rattle.rules.specs.Page.{fits}
 use Rattle.rules.specs.Refusals.{refuses4}
 use Rattle.rules.specs.Encoding.{view, pagesOf}
 use Rattle.rules.proofs.CallTable.{each, isNamed, with-it, named-at, not-that}
 use Rattle.rules.proofs.Accepted.{Early, not-early}
 use Rattle.rules.proofs.Bounds.{Placed, in-within, fits-is, slot-in, table-is, few-pages, hart-low, size-in, vcpu-in, host-in, free-in, directory-in, guest-in}
-use Rattle.refusals.specs.Asked.{Asked}
 use Rattle.refusals.specs.Ready.{Ready}
-use Rattle.refusals.specs.Sights.{InTable}
 
 -- ---- 17 to 19
 pub by-move : (P : ℕ → Type 0) → P 17 → P 18 → P 19 → (c : Call) → moves c ≡ true → P (c .number)

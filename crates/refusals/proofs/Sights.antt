@@ -3,16 +3,15 @@
 use Prim.Native.Nat.{ℕ, _+_}
 use mathlib.Core.Path.{_≡_, refl, sym, _∙_, ap}
 use mathlib.Core.Bool.{Bool, true, false, cond, not, _&&_, _||_, true≢false}
-use lib.Dec.{eqb, ltb}
+use lib.Dec.{eqb}
 use Rattle.sets.specs.Terms.{oneOf, oneFrom, row}
 use Rattle.sets.specs.Look.{any}
 use Rattle.sets.proofs.Bools.{or-left, or-right}
 use Rattle.rules.specs.Page.{Table, isCut, isFree}
 use Rattle.rules.specs.Fence.{Tracker, done}
 use Rattle.rules.specs.Ledger.{Ledger}
-use Rattle.rules.specs.declared.Page.{Page}
 use Rattle.rules.specs.declared.Call.{Call}
-use Rattle.rules.specs.declared.Role.the-variants.{Tvm, HostBase, FreeBase, DirectoryBase}
+use Rattle.rules.specs.declared.Role.the-variants.{HostBase, FreeBase, DirectoryBase}
 use Rattle.rules.specs.Calls.{moves, names, arg, size, firstGuest, index}
 use Rattle.rules.specs.Refusals.{theSlot, theOne, mapped, anyPage, anyGuest, refuses6, refuses7, refuses14}
 use Rattle.rules.proofs.Spans.{host-spans, free-spans}

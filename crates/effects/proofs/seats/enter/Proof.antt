@@ -1,10 +1,10 @@
 use mathlib.Core.Path.{_≡_, sym, _∙_, ap}
 use mathlib.Core.Bool.{true, false}
 use mathlib.Core.Option.{some}
+use borrow.Author.Needs.{needs}
 use Rattle.sets.specs.Terms.{put}
 use Rattle.rules.specs.Ledger.{withHart, inside, flushes}
 use Rattle.rules.specs.Encoding.{view}
-use borrow.Author.Needs.{needs}
 use Rattle.effects.proofs.seats.enter.Statement.{statement}
 use Rattle.effects.proofs.seats.enter.Tie as tie
 

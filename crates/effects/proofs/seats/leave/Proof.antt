@@ -1,10 +1,10 @@
 use mathlib.Core.Path.{_≡_, sym, _∙_, ap}
 use mathlib.Core.Bool.{true≢false}
+use borrow.Author.Needs.{needs}
 use Rattle.rules.specs.Fence.{strike}
 use Rattle.rules.specs.Ledger.{withHart, withSlot, withFence, inside, outside, isOutside, slotOf, placeNumber}
 use Rattle.rules.specs.Encoding.{view}
 use Rattle.words.specs.Parts.{placeIs}
-use borrow.Author.Needs.{needs}
 use Rattle.effects.proofs.seats.leave.Statement.{statement}
 use Rattle.effects.proofs.seats.leave.Tie as tie
 

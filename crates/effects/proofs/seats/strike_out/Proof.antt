@@ -1,11 +1,11 @@
-use mathlib.Core.Path.{_≡_, sym, _∙_, ap}
+use mathlib.Core.Path.{_≡_, _∙_, ap}
+use borrow.Author.Needs.{needs}
 use Rattle.rules.specs.Fence.{strike}
 use Rattle.rules.specs.Ledger.{withSlot, withFence}
 use Rattle.rules.specs.Encoding.{view}
 use Rattle.rules.proofs.HartSets.{bits-without}
 use Rattle.fences.specs.Trackers.{tvmOf}
 use Rattle.effects.proofs.Puts.{trackerWith, past-slots}
-use borrow.Author.Needs.{needs}
 use Rattle.effects.proofs.seats.strike_out.Statement.{statement}
 use Rattle.effects.proofs.seats.strike_out.Tie as tie
 

@@ -1,5 +1,5 @@
-use borrow.Author.Needs.{needs}
 use mathlib.Core.Path.{_∙_}
+use borrow.Author.Needs.{needs}
 use Rattle.refusals.proofs.Named.{asked-is}
 use Rattle.refusals.proofs.asked.asked.Statement.{statement}
 use Rattle.refusals.proofs.asked.asked.Tie as tie

@@ -2,13 +2,13 @@ use Prim.Native.Nat.{_+_, _/_}
 use mathlib.Core.Path.{sym, _∙_}
 use native.Mathlib.Omega.{arith}
 use lib.Dec.{ltb}
+use borrow.Author.Needs.{needs}
 use Rattle.sets.specs.Look.{any}
 use Rattle.rules.specs.Page.{meant}
 use Rattle.rules.specs.Refusals.{refuses11}
 use Rattle.rules.specs.declared.Role.the-variants.{Tvm, UnitType, GuestBase}
 use Rattle.rules.specs.Encoding.{view, pagesOf}
 use Rattle.refusals.proofs.Ready.{typed-tvm, typed-guest, typed-not-9, guest-not-open, tvm-fits, guest-fits, pages-fit, all-records}
-use borrow.Author.Needs.{needs}
 use Rattle.refusals.proofs.claimed.refuses11.Statement.{statement}
 use Rattle.refusals.proofs.claimed.refuses11.Tie as tie
 

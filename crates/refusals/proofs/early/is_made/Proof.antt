@@ -1,5 +1,5 @@
-use borrow.Author.Needs.{needs}
 use mathlib.Core.Path.{sym}
+use borrow.Author.Needs.{needs}
 use Rattle.refusals.proofs.Named.{made-past}
 use Rattle.refusals.proofs.early.is_made.Statement.{statement}
 use Rattle.refusals.proofs.early.is_made.Tie as tie

@@ -1,15 +1,15 @@
-use borrow.Author.Needs.{needs}
 use Prim.Native.Nat.{ℕ, _%_}
 use mathlib.Core.Path.{_≡_, sym, _∙_, ap}
 use mathlib.Core.Bool.{Bool, not, _&&_, _||_}
 use lib.Dec.{ltb, leb, eqb}
+use borrow.Author.Needs.{needs}
 use Rattle.sets.specs.Terms.{oneOf, oneFrom, within}
 use Rattle.rules.specs.Page.{fits}
 use Rattle.rules.specs.Calls.{arg, size}
 use Rattle.rules.specs.Encoding.{view, pagesOf}
-use Rattle.refusals.specs.Asked.{longBy}
 use Rattle.rules.specs.declared.Role.the-variants.{Tvm, Vcpu, UnitCount, UnitType, ByteLength, HartCount, PageCount}
 use Rattle.rules.specs.Refusals.{refuses4}
+use Rattle.refusals.specs.Asked.{longBy}
 use Rattle.refusals.proofs.Named.{long-is}
 use Rattle.refusals.proofs.early.refuses4.Statement.{statement}
 use Rattle.refusals.proofs.early.refuses4.Tie as tie

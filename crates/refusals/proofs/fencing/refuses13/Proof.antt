@@ -2,12 +2,12 @@ use Prim.Native.Nat.{ℕ}
 use mathlib.Core.Path.{_≡_, _∙_, ap}
 use mathlib.Core.Bool.{_&&_, _||_}
 use lib.Dec.{leb, eqb}
+use borrow.Author.Needs.{needs}
 use Rattle.rules.specs.declared.Role.the-variants.{Tvm}
 use Rattle.rules.specs.Calls.{arg}
 use Rattle.rules.specs.Refusals.{refuses13}
 use Rattle.rules.specs.Encoding.{view}
 use Rattle.fences.specs.Trackers.{tvmOf}
-use borrow.Author.Needs.{needs}
 use Rattle.refusals.proofs.fencing.refuses13.Statement.{statement}
 use Rattle.refusals.proofs.fencing.refuses13.Tie as tie
 

@@ -2,13 +2,13 @@ use Prim.Native.Nat.{ℕ}
 use mathlib.Core.Path.{_≡_, _∙_, ap}
 use mathlib.Core.Bool.{_&&_, _||_}
 use lib.Dec.{eqb}
+use borrow.Author.Needs.{needs}
 use Rattle.rules.specs.declared.Role.the-variants.{Tvm}
 use Rattle.rules.specs.Calls.{arg}
 use Rattle.rules.specs.Fence.{someone}
 use Rattle.rules.specs.Refusals.{refuses8}
 use Rattle.rules.specs.Encoding.{view}
 use Rattle.fences.specs.Trackers.{tvmOf}
-use borrow.Author.Needs.{needs}
 use Rattle.refusals.proofs.fencing.refuses8.Statement.{statement}
 use Rattle.refusals.proofs.fencing.refuses8.Tie as tie
 

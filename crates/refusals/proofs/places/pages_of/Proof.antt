@@ -1,6 +1,5 @@
 use Prim.Native.Nat.{_*_, _<_, _^_}
 use borrow.Author.Needs.{needs}
-use Rattle.refusals.proofs.Past.{counted}
 use Rattle.refusals.proofs.places.pages_of.Statement.{statement}
 use Rattle.refusals.proofs.places.pages_of.Tie as tie
 

@@ -7,8 +7,8 @@ use Rattle.sets.specs.Terms.{oneOf, oneFrom, within}
 use Rattle.rules.specs.declared.Role.the-variants.{HostBase, FreeBase, DirectoryBase, UnitType, GuestBase}
 use Rattle.rules.specs.Refusals.{refuses5, misplaced}
 use Rattle.rules.specs.Encoding.{view, pagesOf}
-use Rattle.refusals.specs.Places.{misplacedBy, pastGuest}
 use Rattle.rules.proofs.Spans.{host-spans, free-spans}
+use Rattle.refusals.specs.Places.{misplacedBy, pastGuest}
 use Rattle.refusals.proofs.places.refuses5.Statement.{statement}
 use Rattle.refusals.proofs.places.refuses5.Tie as tie
 

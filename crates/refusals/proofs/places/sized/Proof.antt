@@ -1,17 +1,14 @@
 use Prim.Native.Nat.{_*_}
-use mathlib.Core.Path.{_≡_}
+use mathlib.Core.Path.{_≡_, _∙_, sym}
 use mathlib.Core.Bool.{not}
 use native.Mathlib.Omega.{arith}
 use lib.Dec.{eqb}
 use borrow.Author.Tests.{ltb-false}
-use Rattle.sets.proofs.Bools.{and-off}
-use Rattle.rules.specs.Calls.{unit, arg}
-use Rattle.refusals.proofs.Ready.{counted-not-9}
-use Prim.Native.Nat.{ℕ, _<_, _^_}
-use mathlib.Core.Path.{_∙_, sym, subst}
 use borrow.Author.Needs.{needs}
+use Rattle.sets.proofs.Bools.{and-off}
+use Rattle.rules.specs.Calls.{unit, arg, size}
 use Rattle.rules.specs.declared.Role.the-variants.{UnitCount, UnitType, ByteLength}
-use Rattle.rules.specs.Calls.{size}
+use Rattle.refusals.proofs.Ready.{counted-not-9}
 use Rattle.refusals.specs.Places.{sizeBy}
 use Rattle.refusals.proofs.places.sized.Statement.{statement}
 use Rattle.refusals.proofs.places.sized.Tie as tie

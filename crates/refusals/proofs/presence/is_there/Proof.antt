@@ -1,9 +1,9 @@
 use mathlib.Core.Path.{sym, _∙_, ap}
+use borrow.Author.Needs.{needs}
 use Rattle.words.specs.Parts.{placeIs}
 use Rattle.words.specs.declared.parts.Place.{Place}
 use Rattle.refusals.specs.Harts.{isThere}
 use Rattle.refusals.proofs.Seats.{nowhere, seat-is}
-use borrow.Author.Needs.{needs}
 use Rattle.refusals.proofs.presence.is_there.Statement.{statement}
 use Rattle.refusals.proofs.presence.is_there.Tie as tie
 

@@ -1,13 +1,13 @@
 use mathlib.Core.Path.{_∙_, ap}
 use mathlib.Core.Bool.{true, false, not, _&&_, _||_}
 use lib.Dec.{eqb}
+use borrow.Author.Needs.{needs}
 use Rattle.sets.specs.Terms.{oneOf, oneFrom}
 use Rattle.rules.specs.declared.Role.the-variants.{Tvm, Vcpu}
 use Rattle.rules.specs.Fence.{someone}
 use Rattle.rules.specs.Refusals.{refuses12}
 use Rattle.rules.specs.Encoding.{view}
 use Rattle.refusals.specs.Harts.{thereOf}
-use borrow.Author.Needs.{needs}
 use Rattle.refusals.proofs.presence.refuses12.Statement.{statement}
 use Rattle.refusals.proofs.presence.refuses12.Tie as tie
 

@@ -1,8 +1,8 @@
-use borrow.Author.Needs.{needs}
 use Prim.Native.Nat.{_≤_, _-_}
 use mathlib.Core.Path.{_≡_, sym, _∙_, ap}
 use mathlib.Core.Logic.{⊎-elim}
 use native.Mathlib.Omega.{arith}
+use borrow.Author.Needs.{needs}
 use Rattle.rules.specs.Encoding.{view, bits}
 use Rattle.rules.proofs.HartSets.{upto, upto-none, upto-with, upto-skip, upto-all}
 use Rattle.refusals.specs.Harts.{isThere, thereOf}

@@ -1,6 +1,6 @@
-use Rattle.refusals.specs.Regions.{holdsBy, overlapsBy}
 use mathlib.Core.Path.{_∙_}
 use borrow.Author.Needs.{needs}
+use Rattle.refusals.specs.Regions.{holdsBy, overlapsBy}
 use Rattle.refusals.proofs.regions.is_met.Statement.{statement}
 use Rattle.refusals.proofs.regions.is_met.Tie as tie
 

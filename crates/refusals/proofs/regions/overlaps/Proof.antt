@@ -1,6 +1,6 @@
 use Prim.Native.Nat.{_+_}
-use Rattle.refusals.proofs.Overlaps.{overlap-is}
 use borrow.Author.Needs.{needs}
+use Rattle.refusals.proofs.Overlaps.{overlap-is}
 use Rattle.refusals.proofs.regions.overlaps.Statement.{statement}
 use Rattle.refusals.proofs.regions.overlaps.Tie as tie
 

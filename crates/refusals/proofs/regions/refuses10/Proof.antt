@@ -2,6 +2,7 @@ use Prim.Native.Nat.{_/_}
 use mathlib.Core.Path.{_≡_, sym, _∙_, ap}
 use mathlib.Core.Bool.{not}
 use borrow.Author.Tests.{eq-eqb, ne-eqb}
+use borrow.Author.Needs.{needs}
 use Rattle.sets.specs.Look.{any}
 use Rattle.sets.proofs.Bools.{or-false}
 use Rattle.rules.specs.declared.Role.the-variants.{Tvm, UnitType, GuestBase}
@@ -10,7 +11,6 @@ use Rattle.rules.specs.Refusals.{refuses10}
 use Rattle.rules.specs.Encoding.{view, pagesOf}
 use Rattle.refusals.specs.Regions.{holdsBy, overlapsBy}
 use Rattle.refusals.proofs.Ready.{guest-fits, region-guest, region-untyped, typed-guest}
-use borrow.Author.Needs.{needs}
 use Rattle.refusals.proofs.regions.refuses10.Statement.{statement}
 use Rattle.refusals.proofs.regions.refuses10.Tie as tie
 

@@ -2,6 +2,7 @@ use Prim.Native.Nat.{ℕ}
 use mathlib.Core.Path.{_≡_, _∙_, ap}
 use mathlib.Core.Bool.{not, _&&_, _||_}
 use lib.Dec.{ltb, eqb}
+use borrow.Author.Needs.{needs}
 use Rattle.sets.specs.Look.{any, lowest}
 use Rattle.sets.proofs.Looks.{lowest-any}
 use Rattle.rules.specs.declared.Role.the-variants.{Tvm}
@@ -9,7 +10,6 @@ use Rattle.rules.specs.Calls.{arg}
 use Rattle.rules.specs.Refusals.{refuses9}
 use Rattle.rules.specs.Encoding.{view}
 use Rattle.refusals.specs.Room.{takeableAt, unusedAt}
-use borrow.Author.Needs.{needs}
 use Rattle.refusals.proofs.room.refuses9.Statement.{statement}
 use Rattle.refusals.proofs.room.refuses9.Tie as tie
 

@@ -1,12 +1,12 @@
 use Prim.Native.Nat.{ℕ, _/_}
 use mathlib.Core.Path.{_≡_, sym, _∙_, ap}
 use native.Mathlib.Omega.{arith}
+use borrow.Author.Needs.{needs}
 use Rattle.rules.specs.declared.Role.the-variants.{Tvm, GuestBase}
 use Rattle.rules.specs.Calls.{arg}
 use Rattle.rules.specs.Encoding.{view, pagesOf}
 use Rattle.records.specs.Passes.{guestLook}
 use Rattle.refusals.proofs.Ready.{moves-tvm, moves-guest, moves-not-9, guest-not-open, tvm-fits, guest-fits, pages-fit, all-records}
-use borrow.Author.Needs.{needs}
 use Rattle.refusals.proofs.sight.guests_at.Statement.{statement}
 use Rattle.refusals.proofs.sight.guests_at.Tie as tie
 

@@ -1,12 +1,12 @@
 use mathlib.Core.Path.{sym, _∙_, ap, subst}
 use mathlib.Core.Bool.{_&&_, _||_, true, false}
 use lib.Dec.{eqb}
+use borrow.Author.Needs.{needs}
 use Rattle.rules.specs.declared.Role.the-variants.{HostBase, FreeBase, DirectoryBase}
 use Rattle.rules.specs.Encoding.{view, pagesOf}
 use Rattle.refusals.specs.Sights.{Seen, isUnwanted, isUnfinished, isUnready, isUndone, hasCut, lookAt}
 use Rattle.refusals.proofs.Ready.{host-fits, directory-fits, free-fits}
 use Rattle.refusals.proofs.Sights.{seen}
-use borrow.Author.Needs.{needs}
 use Rattle.refusals.proofs.sight.look.Statement.{statement}
 use Rattle.refusals.proofs.sight.look.Tie as tie
 
