@@ -23,7 +23,7 @@ use Rattle.rules.specs.Effects.{writes, written, table, ledger, value, mapping}
 use Rattle.rules.proofs.CallTable.{each, with-it, among, named-at}
 use Rattle.rules.proofs.Spans.{free-spans}
 use Rattle.records.specs.Passes.{becomes}
-use Rattle.refusals.specs.Room.{takeableAt, unusedAt}
+use Rattle.seats.specs.Room.{takeableAt, unusedAt}
 use Rattle.effects.specs.Parts.{endedFence}
 use Rattle.ledger.specs.Settled.{Kept}
 

@@ -18,7 +18,7 @@ use Rattle.rules.specs.Calls.{opens, names, arg, size, firstGuest}
 use Rattle.rules.specs.Refusals.{refuses9, refuses13, refuses15}
 use Rattle.rules.proofs.Accepted.{Early, Passed, passed, early-of, harts-lawful, pages-lawful}
 use Rattle.rules.proofs.Bounds.{in-within, slot-in, few-harts, hart-low, vcpu-in, guest-in}
-use Rattle.refusals.specs.Room.{takeableAt, unusedAt}
+use Rattle.seats.specs.Room.{takeableAt, unusedAt}
 use Rattle.ledger.specs.Settled.{Lawful}
 
 module _ (l : Ledger) (c : Call) (p : Lawful l c) where

@@ -12,8 +12,8 @@ use Rattle.rules.specs.declared.Role.the-variants.{Tvm, FreeBase, DirectoryBase
 use Rattle.rules.specs.Calls.{entryOf, names, size, index}
 use Rattle.rules.specs.Encoding.{view, pagesOf}
 use Rattle.rules.proofs.CallTable.{named-at}
-use Rattle.refusals.specs.Room.{takeableAt}
-use Rattle.refusals.proofs.Ready.{free-fits, directory-fits, tvm-fits, pages-fit, guest-fits, typed-tvm, typed-guest, typed-not-9}
+use Rattle.seats.specs.Room.{takeableAt}
+use Rattle.door.proofs.Ready.{free-fits, directory-fits, tvm-fits, pages-fit, guest-fits, typed-tvm, typed-guest, typed-not-9}
 use Rattle.ledger.proofs.ByNumber.{table-2, table-5, table-10, table-14, table-typed, typed-free}
 use Rattle.ledger.proofs.table.on_free.Statement.{statement}
 use Rattle.ledger.proofs.table.on_free.Tie as tie

@@ -8,7 +8,7 @@ use Rattle.rules.specs.Page.{over, page, isGiven}
 use Rattle.rules.specs.Calls.{entryOf, index}
 use Rattle.rules.specs.Encoding.{view, pagesOf}
 use Rattle.rules.proofs.CallTable.{named-at}
-use Rattle.refusals.proofs.Ready.{host-fits, pages-fit, tvm-fits, all-records, opening-fits}
+use Rattle.door.proofs.Ready.{host-fits, pages-fit, tvm-fits, all-records, opening-fits}
 use Rattle.ledger.proofs.ByNumber.{table-1, table-8, table-33, table-none}
 use Rattle.ledger.proofs.table.on_table.Statement.{statement}
 use Rattle.ledger.proofs.table.on_table.Tie as tie
