@@ -111,15 +111,36 @@ def pack_line(line):
 
 def parse(text, name):
     """One (bytes, times, comment) for each line of a text tape."""
+    size = 0
     for count, line in enumerate(text.split("\n"), 1):
         try:
-            yield pack_line(line)
+            data, times, comment = pack_line(line)
         except FormError as error:
-            raise FormError(f"{name}:{count}: {error}") from None
+            raise FormError(f"{name}:{count}: record {size // RECORD + 1}: {error}") from None
+        size += len(data) * times
+        yield data, times, comment
 
 
 def to_bytes(text, name="<text>"):
     return b"".join(data * times for data, times, _ in parse(text, name))
+
+
+def is_text(data):
+    """By looking: it begins as the text form does (the mark is no such letter),
+    and has nothing that text has not."""
+    try:
+        text = data.decode()
+    except UnicodeDecodeError:
+        return False
+    begins = re.match(r"\s*([#a-z0-9]|$)", text)
+    return bool(begins) and all(c.isprintable() or c in "\t\r\n" for c in text)
+
+
+def load(name):
+    """The bytes of a tape in a file, which has them or their text."""
+    with open(name, "rb") as file:
+        data = file.read()
+    return to_bytes(data.decode(), name) if is_text(data) else data
 
 
 def show_value(value, what):
