@@ -1,8 +1,8 @@
 -- Parts of a ledger put anew, one after the other; a fence and its harts as the words have them.
 -- Assumes nothing.
-use Prim.Native.Nat.{ℕ, _+_, _≤_, _<_}
-use mathlib.Core.Path.{_≡_, refl, sym, _∙_, ap, fun-ext}
-use mathlib.Core.Bool.{Bool, true, false, cond}
+use Prim.Native.Nat.{ℕ, _+_, _≤_}
+use mathlib.Core.Path.{_≡_, refl, sym, _∙_, fun-ext}
+use mathlib.Core.Bool.{false, cond}
 use mathlib.Core.List.{List}
 use native.Mathlib.Omega.{arith}
 use lib.Dec.{ltb, eqb}
@@ -11,7 +11,7 @@ use Rattle.sets.specs.Terms.{put}
 use Rattle.sets.proofs.Bools.{by-test}
 use Rattle.sets.proofs.Laws.{member-none}
 use Rattle.rules.specs.Fence.{Harts, Tracker, strike}
-use Rattle.rules.specs.Ledger.{Ledger, Slot, Region, slot, bare, withSlot, withFence}
+use Rattle.rules.specs.Ledger.{Ledger, Slot, Region, slot, withSlot, withFence}
 use Rattle.rules.specs.Encoding.{view, viewOf, bits}
 use Rattle.effects.specs.Parts.{noRegion}
 

@@ -8,7 +8,7 @@ use fences::global_begun;
 use fences::global_struck;
 use fences::how_many;
 use fences::lent;
-use refusals::presence::there;
+use seats::presence::there;
 use words::parts;
 use words::sizes;
 

@@ -9,8 +9,8 @@ ghost use Rattle.rules.specs.Page.{over, page, guestWord};
 ghost use Rattle.rules.specs.Calls.{memory, index};
 ghost use Rattle.rules.specs.Encoding.{view, pagesOf};
 ghost use Rattle.records.specs.Passes.{stepped};
+use looks::sight::index_of;
 use records::range;
-use refusals::sight::index_of;
 use rules::Page;
 use words::parts;
 

@@ -7,11 +7,11 @@ ghost use Rattle.sets.specs.Look.{lowest};
 ghost use Rattle.rules.specs.Ledger.{withSlot, slot as slotWith, bare as bareWith};
 ghost use Rattle.rules.specs.Encoding.{view};
 ghost use Rattle.fences.specs.Trackers.{tvmOf};
-ghost use Rattle.refusals.specs.Room.{unusedAt};
+ghost use Rattle.seats.specs.Room.{unusedAt};
 ghost use Rattle.effects.specs.Parts.{noRegion, endedFence};
 use fences::TvmTracker;
 use fences::tvm_ended;
-use refusals::room::unused;
+use seats::room::unused;
 use words::parts;
 use words::parts::Region;
 

@@ -15,3 +15,4 @@ pub mod Blocked
 pub mod Demand3
 pub mod Played
 pub mod Alive
+pub mod OfTheCode

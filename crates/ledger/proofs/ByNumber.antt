@@ -1,21 +1,20 @@
 -- What table, ledger and value are at each call number.
 -- Assumes nothing.
-use Prim.Native.Nat.{ℕ, _+_, _-_}
-use mathlib.Core.Path.{_≡_, refl, sym, _∙_, ap}
-use mathlib.Core.Bool.{Bool, true, false, cond, not, _&&_, _||_, true≢false}
+use Prim.Native.Nat.{ℕ, _-_}
+use mathlib.Core.Path.{_≡_, refl, sym, _∙_}
+use mathlib.Core.Bool.{Bool, true, false, cond, _&&_, _||_, true≢false}
 use mathlib.Core.Logic.{⊎-elim}
 use mathlib.Core.Option.{some}
-use mathlib.Core.List.{List, [], _∷_}
+use mathlib.Core.List.{[], _∷_}
 use lib.Dec.{ltb, eqb}
 use borrow.Author.Tests.{ne-eqb, eqb-true}
 use Rattle.sets.specs.Terms.{oneOf, oneFrom, anyIn, row, within, put}
 use Rattle.sets.specs.Look.{lowest}
 use Rattle.sets.proofs.Bools.{by-test, or-cases}
 use Rattle.sets.proofs.OneOf.{one-off}
-use Rattle.rules.specs.declared.Page.{Page}
 use Rattle.rules.specs.declared.Call.{Call}
-use Rattle.rules.specs.declared.Role.the-variants.{Tvm, Vcpu, HostBase, FreeBase, DirectoryBase, UnitType, GuestBase, HartCount, PageCount}
-use Rattle.rules.specs.Page.{Table, over, page, guestWord, moved, isGiven, isMeant}
+use Rattle.rules.specs.declared.Role.the-variants.{Tvm, Vcpu, HostBase, FreeBase, DirectoryBase, UnitType, HartCount, PageCount}
+use Rattle.rules.specs.Page.{Table, over, page, isGiven, isMeant}
 use Rattle.rules.specs.Fence.{begin, strike, number}
 use Rattle.rules.specs.Ledger.{Ledger, withGlobal, withSlot, withHart, withFence, slot, bare, opened, inside, outside, slotOf, placeNumber, othersOf, insidersOf, flushes}
 use Rattle.rules.specs.Calls.{entryOf, names, arg, moves, size, firstGuest, index, freeSpans}
@@ -24,7 +23,7 @@ use Rattle.rules.specs.Effects.{writes, written, table, ledger, value, mapping}
 use Rattle.rules.proofs.CallTable.{each, with-it, among, named-at}
 use Rattle.rules.proofs.Spans.{free-spans}
 use Rattle.records.specs.Passes.{becomes}
-use Rattle.refusals.specs.Room.{takeableAt, unusedAt}
+use Rattle.seats.specs.Room.{takeableAt, unusedAt}
 use Rattle.effects.specs.Parts.{endedFence}
 use Rattle.ledger.specs.Settled.{Kept}
 

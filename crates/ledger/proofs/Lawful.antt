@@ -1,12 +1,12 @@
 -- What the effects need of a call that nothing refuses.
 -- Assumes nothing.
-use Prim.Native.Nat.{ℕ, _+_, _≤_, _<_}
-use mathlib.Core.Path.{_≡_, refl, sym, _∙_, ap}
-use mathlib.Core.Bool.{Bool, true, false, not, _&&_, _||_}
+use Prim.Native.Nat.{_+_, _≤_, _<_}
+use mathlib.Core.Path.{_≡_, sym, _∙_}
+use mathlib.Core.Bool.{true, false, not, _&&_}
 use native.Mathlib.Omega.{arith}
-use lib.Dec.{ltb, leb, eqb}
+use lib.Dec.{leb}
 use borrow.Author.Tests.{eq-eqb, leb-false, ltb-true, not-false}
-use Rattle.sets.specs.Terms.{oneOf, oneFrom, within}
+use Rattle.sets.specs.Terms.{within}
 use Rattle.sets.specs.Look.{any, lowest}
 use Rattle.sets.proofs.Bools.{and-left, and-off, or-left}
 use Rattle.sets.proofs.Looks.{lowest-any}
@@ -14,11 +14,11 @@ use Rattle.rules.specs.Page.{Table, fits}
 use Rattle.rules.specs.Ledger.{Ledger, isOutside}
 use Rattle.rules.specs.declared.Call.{Call}
 use Rattle.rules.specs.declared.Role.the-variants.{Tvm, Vcpu, GuestBase, HartCount, PageCount}
-use Rattle.rules.specs.Calls.{entryOf, opens, names, arg, size, firstGuest}
+use Rattle.rules.specs.Calls.{opens, names, arg, size, firstGuest}
 use Rattle.rules.specs.Refusals.{refuses9, refuses13, refuses15}
 use Rattle.rules.proofs.Accepted.{Early, Passed, passed, early-of, harts-lawful, pages-lawful}
 use Rattle.rules.proofs.Bounds.{in-within, slot-in, few-harts, hart-low, vcpu-in, guest-in}
-use Rattle.refusals.specs.Room.{takeableAt, unusedAt}
+use Rattle.seats.specs.Room.{takeableAt, unusedAt}
 use Rattle.ledger.specs.Settled.{Lawful}
 
 module _ (l : Ledger) (c : Call) (p : Lawful l c) where

@@ -1,19 +1,16 @@
 -- A call that nothing refuses, and one that something does, settled.
 -- Assumes nothing.
 use Prim.Native.Nat.{ℕ, zero, suc, _+_}
-use mathlib.Core.Path.{_≡_, refl, sym, _∙_, ap, subst}
-use mathlib.Core.Bool.{Bool, true, false, cond}
+use mathlib.Core.Path.{_≡_, refl, sym, _∙_, ap}
+use mathlib.Core.Bool.{Bool, true, false}
 use mathlib.Core.List.{List, [], _∷_, _++_}
-use native.Mathlib.Omega.{arith}
 use Rattle.rules.specs.Page.{Table}
 use Rattle.rules.specs.Ledger.{Ledger}
 use Rattle.rules.specs.declared.Call.{Call}
-use Rattle.rules.specs.declared.Answer.{Answer}
 use Rattle.rules.specs.declared.Answer.the-variants.{Accepted, Refused}
 use Rattle.rules.specs.Refusals.{early, late, lowestOf, refusal}
 use Rattle.rules.specs.Effects.{table, ledger, value}
 use Rattle.rules.specs.Step.{Outcome, settle, step}
-use Rattle.rules.proofs.Accepted.{Passed, passed}
 use Rattle.ledger.specs.Settled.{state, Settled}
 
 module _ (l : Ledger) (t : Table) (c : Call) where

@@ -5,19 +5,19 @@ ghost use Rattle.sets.specs.Look.{lowest};
 ghost use Rattle.rules.specs.Ledger.{withSlot, bare};
 ghost use Rattle.rules.specs.Calls.{size};
 ghost use Rattle.rules.specs.Encoding.{view};
-ghost use Rattle.refusals.specs.Asked.{Asked};
-ghost use Rattle.refusals.specs.Room.{takeableAt};
+ghost use Rattle.door.specs.Asked.{Asked};
+ghost use Rattle.seats.specs.Room.{takeableAt};
 ghost use Rattle.ledger.specs.Settled.{Lawful, Kept, InSlots};
+use door::roles::GUEST;
+use door::roles::HARTS;
+use door::roles::PAGES;
+use door::roles::TVM;
+use door::roles::VCPU;
+use effects::entering;
 use effects::fencing;
-use effects::seats;
 use effects::slots;
-use refusals::roles::GUEST;
-use refusals::roles::HARTS;
-use refusals::roles::PAGES;
-use refusals::roles::TVM;
-use refusals::roles::VCPU;
-use refusals::room::taken;
 use rules::Call;
+use seats::room::taken;
 use words::parts;
 use words::sizes;
 
@@ -58,9 +58,9 @@ pub fn on_ledger(l: &mut [u32; 426], q: Call, a: &[u64; 12], pages: u64) -> u64
         3 => fencing::global_fence(l, q.hart),
         4 => fencing::local_fence(l, q.hart),
         5 => create(l),
-        15 => seats::enter(l, q.hart, a[TVM], a[VCPU]),
+        15 => entering::enter(l, q.hart, a[TVM], a[VCPU]),
         16 => fencing::tvm_fence(l, a[TVM]),
-        32 => seats::leave(l, q.hart),
+        32 => entering::leave(l, q.hart),
         _ => on_slots(l, q, a, pages),
     }
 }

@@ -1,19 +1,19 @@
 -- What refusals 1 to 5 leave: slot, hart, pages and guest pages are within their bounds.
 -- Assumes nothing.
 use Prim.Native.Nat.{ℕ, _+_, _-_, _*_, _/_, _%_, _≤_, _<_}
-use mathlib.Core.Path.{_≡_, refl, sym, _∙_}
-use mathlib.Core.Bool.{Bool, true, false, not, _&&_, _||_, true≢false}
+use mathlib.Core.Path.{_≡_, sym, _∙_}
+use mathlib.Core.Bool.{true, false, not, _&&_, _||_}
 use native.Mathlib.Omega.{arith}
 use lib.Dec.{ltb, leb, eqb}
 use borrow.Author.Tests.{ltb-true, ltb-false, leb-true, leb-false, eqb-true, not-false}
-use Rattle.sets.specs.Terms.{oneOf, within}
+use Rattle.sets.specs.Terms.{within}
 use Rattle.sets.proofs.Bools.{or-left, or-right, and-left, and-right, and-off}
 use Rattle.sets.proofs.OneOf.{one-off}
 use Rattle.rules.specs.Page.{Table, fits}
 use Rattle.rules.specs.Ledger.{Ledger, isOpen}
 use Rattle.rules.specs.declared.Call.{Call}
-use Rattle.rules.specs.declared.Role.the-variants.{Tvm, Vcpu, HostBase, FreeBase, DirectoryBase, UnitType, GuestBase}
-use Rattle.rules.specs.Calls.{Span, span, opens, names, arg, unit, size, firstGuest, memory, index, hostSpans, freeSpans}
+use Rattle.rules.specs.declared.Role.the-variants.{Tvm, Vcpu, HostBase, FreeBase, DirectoryBase, GuestBase}
+use Rattle.rules.specs.Calls.{Span, span, opens, names, arg, unit, size, firstGuest, memory, index}
 use Rattle.rules.specs.Refusals.{misplaced, refuses2, refuses3, refuses4, refuses5}
 use Rattle.rules.proofs.Accepted.{Early}
 use Rattle.rules.proofs.Spans.{host-spans, free-spans}

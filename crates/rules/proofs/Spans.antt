@@ -1,9 +1,8 @@
 -- A look at the pages that a call names, as what the call names.
 -- Assumes nothing.
-use Prim.Native.Nat.{ℕ}
 use mathlib.Core.Path.{_≡_, refl, sym}
 use mathlib.Core.Bool.{Bool, true, false, cond, _&&_, _||_}
-use mathlib.Core.List.{List, [], _∷_}
+use mathlib.Core.List.{[], _∷_}
 use Rattle.sets.specs.Terms.{oneOf, oneFrom, anyIn}
 use Rattle.sets.proofs.Bools.{or-false}
 use Rattle.rules.specs.declared.Role.the-variants.{HostBase, FreeBase, DirectoryBase}

@@ -20,8 +20,8 @@ use Rattle.rules.specs.Fence.{Tracker}
 use Rattle.rules.specs.Ledger.{Ledger, Place, inside, outside, start, bare, opened}
 use Rattle.rules.specs.Step.{Answer, State, step}
 use Rattle.rules.specs.Encoding.{read, part, cell, bits, trackerOf, upper, placeOf, markOf, viewOf, view, pageAt, pagesOf, stateOf, Numbers, Called}
-use Rattle.rules.specs.Promises.{WordsKept, BytesKept, OnlyOne, RefusedWritesNothing, ZerosUnopened}
-use Rattle.rules.proofs.Refused.{refused-changes-nothing}
+use Rattle.rules.specs.Promises.{WordsKept, BytesKept, OnlyOne, RefusedWritesNothing, OthersKept, ZerosUnopened}
+use Rattle.rules.proofs.Refused.{refused-changes-nothing, unwritten}
 
 -- ---- one word
 same-set : (s t : ℕ) → s < 256 → t < 256 → bits s ≡ bits t → s ≡ t
@@ -165,34 +165,31 @@ four {a} {b} {c} {d} {a′} {b′} {c′} {d′} ha ha′ hb hb′ hc hc′ q =
     let w = two {b = d} {d = d′} hc hc′ (z .1) in
     (y .0, z .0, w .0, w .1)
 
-module _ (t u : List ℕ) (small-t : (i : ℕ) → getD t i 0 < 256) (small-u : (i : ℕ) → getD u i 0 < 256) (e : pagesOf t ≡ pagesOf u) where
-  same-page : (k : ℕ) → pageAt t (8 * k) ≡ pageAt u (8 * k)
+module _ (t u : List ℕ) (small-t : (i : ℕ) → getD t i 0 < 256) (small-u : (i : ℕ) → getD u i 0 < 256) where
+  module _ (k : ℕ) (e : pageAt t (8 * k) ≡ pageAt u (8 * k)) where
+    version-bytes : (getD t (8 * k + 2) 0 ≡ getD u (8 * k + 2) 0) × (getD t (8 * k + 3) 0 ≡ getD u (8 * k + 3) 0)
+    version-bytes = two (small-t (8 * k + 2)) (small-u (8 * k + 2)) (ap (λ (p : Page). p .version) e)
+
+    guest-bytes : (getD t (8 * k + 4) 0 ≡ getD u (8 * k + 4) 0) × (getD t (8 * k + 5) 0 ≡ getD u (8 * k + 5) 0)
+        × (getD t (8 * k + 6) 0 ≡ getD u (8 * k + 6) 0) × (getD t (8 * k + 7) 0 ≡ getD u (8 * k + 7) 0)
+    guest-bytes = four (small-t (8 * k + 4)) (small-u (8 * k + 4)) (small-t (8 * k + 5)) (small-u (8 * k + 5)) (small-t (8 * k + 6)) (small-u (8 * k + 6)) (ap (λ (p : Page). p .guest) e)
+
+    in-page : (x : ℕ) → x < 8 → getD t (8 * k + x) 0 ≡ getD u (8 * k + x) 0
+    in-page zero l = let q : 8 * k + 0 ≡ 8 * k = omega arith in rw q (ap (λ (p : Page). p .kind) e)
+    in-page (suc zero) l = ap (λ (p : Page). p .slot) e
+    in-page (suc (suc zero)) l = version-bytes .0
+    in-page (suc (suc (suc zero))) l = version-bytes .1
+    in-page (suc (suc (suc (suc zero)))) l = guest-bytes .0
+    in-page (suc (suc (suc (suc (suc zero))))) l = guest-bytes .1
+    in-page (suc (suc (suc (suc (suc (suc zero)))))) l = guest-bytes .2
+    in-page (suc (suc (suc (suc (suc (suc (suc zero))))))) l = guest-bytes .3
+    in-page (suc (suc (suc (suc (suc (suc (suc (suc y)))))))) l = absurd (omega arith)
+
+  every-byte : pagesOf t ≡ pagesOf u → t ≡ u
   unfolding pagesOf
-  same-page k = ap (λ (x : Table). x .page k) e
-
-  version-bytes : (k : ℕ) → (getD t (8 * k + 2) 0 ≡ getD u (8 * k + 2) 0) × (getD t (8 * k + 3) 0 ≡ getD u (8 * k + 3) 0)
-  version-bytes k = two (small-t (8 * k + 2)) (small-u (8 * k + 2)) (ap (λ (p : Page). p .version) (same-page k))
-
-  guest-bytes : (k : ℕ) → (getD t (8 * k + 4) 0 ≡ getD u (8 * k + 4) 0) × (getD t (8 * k + 5) 0 ≡ getD u (8 * k + 5) 0)
-      × (getD t (8 * k + 6) 0 ≡ getD u (8 * k + 6) 0) × (getD t (8 * k + 7) 0 ≡ getD u (8 * k + 7) 0)
-  guest-bytes k =
-      four (small-t (8 * k + 4)) (small-u (8 * k + 4)) (small-t (8 * k + 5)) (small-u (8 * k + 5)) (small-t (8 * k + 6)) (small-u (8 * k + 6)) (ap (λ (p : Page). p .guest) (same-page k))
-
-  in-page : (k x : ℕ) → x < 8 → getD t (8 * k + x) 0 ≡ getD u (8 * k + x) 0
-  in-page k zero l = let q : 8 * k + 0 ≡ 8 * k = omega arith in rw q (ap (λ (p : Page). p .kind) (same-page k))
-  in-page k (suc zero) l = ap (λ (p : Page). p .slot) (same-page k)
-  in-page k (suc (suc zero)) l = version-bytes k .0
-  in-page k (suc (suc (suc zero))) l = version-bytes k .1
-  in-page k (suc (suc (suc (suc zero)))) l = guest-bytes k .0
-  in-page k (suc (suc (suc (suc (suc zero))))) l = guest-bytes k .1
-  in-page k (suc (suc (suc (suc (suc (suc zero)))))) l = guest-bytes k .2
-  in-page k (suc (suc (suc (suc (suc (suc (suc zero))))))) l = guest-bytes k .3
-  in-page k (suc (suc (suc (suc (suc (suc (suc (suc y)))))))) l = absurd (omega arith)
-
-  every-byte : t ≡ u
-  unfolding pagesOf
-  every-byte =
-      ext-getD 0 t u (ap (λ (x : Table). x .bytes) e) (λ i l. let q : i ≡ 8 * (i / 8) + i % 8 = omega arith in rw q (in-page (i / 8) (i % 8) (omega arith)))
+  every-byte e =
+      ext-getD 0 t u (ap (λ (x : Table). x .bytes) e)
+      (λ i l. let q : i ≡ 8 * (i / 8) + i % 8 = omega arith in rw q (in-page (i / 8) (ap (λ (x : Table). x .page (i / 8)) e) (i % 8) (omega arith)))
 
 pub bytes-kept : BytesKept
 bytes-kept m n a b na nb e = every-byte a b (na .small) (nb .small) e
@@ -212,6 +209,10 @@ refused-writes-nothing ws b c n ws′ b′ nw nb p =
       words-kept ws′ ws (p .words) nw (ap (λ (s : State). s .ledger) e),
       bytes-kept (length b) (length b) b′ b (p .bytes) nb (ap (λ (s : State). s .table) e),
     )
+
+pub others-kept : OthersKept
+unfolding pagesOf
+others-kept ws b c v ws′ b′ nb p i h x l = in-page b′ b (p .bytes .small) (nb .small) i (ap (λ (s : State). s .table .page i) (p .state) ∙ unwritten (stateOf ws b) c v i (sym (p .answer)) h) x l
 
 -- ---- words that are all 0
 zeros : ℕ → ℕ

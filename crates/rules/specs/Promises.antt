@@ -1,12 +1,12 @@
 -- What is proved of the definitions, as statements. The words quoted are those of the three demands.
 use mathlib.Core.Logic.{_↔_}
 use lib.ListN.{replicate}
-use Rattle.sets.specs.Terms.{ℕ, _≤_, _<_, _^_, _≡_, Bool, true, false, List, [], _∷_, map, length, getD}
+use Rattle.sets.specs.Terms.{ℕ, _+_, _*_, _≤_, _<_, _^_, _≡_, Bool, true, false, List, [], _∷_, map, length, getD}
 use Rattle.rules.specs.Page.{Table}
 use Rattle.rules.specs.Ledger.{Ledger, opened}
 use Rattle.rules.specs.Calls.{Call}
 use Rattle.rules.specs.Refusals.{refuses1, refuses2, refuses3, refuses4, refuses5, refuses6, refuses7, refuses8, refuses9, refuses10, refuses11, refuses12, refuses13, refuses14, refuses15}
-use Rattle.rules.specs.Effects.{value}
+use Rattle.rules.specs.Effects.{value, writes}
 use Rattle.rules.specs.Step.{Answer, Accepted, Refused, State, step}
 use Rattle.rules.specs.Encoding.{view, pagesOf, Numbers, Called}
 use Rattle.rules.specs.Seatings.{seatings, played, wanted}
@@ -33,6 +33,12 @@ abbrev pub RefusedWritesNothing : Type 0
 RefusedWritesNothing =
     (ws b : List ℕ) (c : Call) (n : ℕ) (ws′ b′ : List ℕ) → Numbers 426 (2 ^ 32) ws → Numbers (length b) 256 b → Called ws b c (Refused n) ws′ b′
     → (ws′ ≡ ws) × (b′ ≡ b)
+
+-- An accepted call writes the records that it names and no others: `writes` says which those are, and every other keeps its eight bytes.
+abbrev pub OthersKept : Type 0
+OthersKept =
+    (ws b : List ℕ) (c : Call) (v : ℕ) (ws′ b′ : List ℕ) → Numbers (length b) 256 b → Called ws b c (Accepted v) ws′ b′
+    → (i : ℕ) → writes (view ws) (pagesOf b) c i ≡ false → (x : ℕ) → x < 8 → getD b′ (8 * i + x) 0 ≡ getD b (8 * i + x) 0
 
 -- The encoding loses nothing, garbage included; words that are all 0 show a ledger that is not open
 abbrev pub WordsKept : Type 0

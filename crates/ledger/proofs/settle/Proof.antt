@@ -1,10 +1,10 @@
 use mathlib.Core.Path.{sym, _∙_}
+use borrow.Author.Needs.{needs}
 use Rattle.sets.proofs.OneOf.{one-off}
 use Rattle.rules.specs.Refusals.{refuses4}
 use Rattle.rules.specs.Encoding.{view, pagesOf}
 use Rattle.rules.proofs.Accepted.{passed}
 use Rattle.ledger.proofs.Settling.{accepted, refused, none-early}
-use borrow.Author.Needs.{needs}
 use Rattle.ledger.proofs.settle.Statement.{statement}
 use Rattle.ledger.proofs.settle.Tie as tie
 

@@ -1,12 +1,12 @@
-use mathlib.Core.Path.{_≡_, sym, _∙_, ap}
 use Prim.Native.Nat.{_<_}
+use mathlib.Core.Path.{_≡_, _∙_, ap}
+use borrow.Author.Needs.{needs}
 use Rattle.sets.specs.Set.{without, full}
 use Rattle.rules.specs.Fence.{begin, number}
 use Rattle.rules.specs.Ledger.{withGlobal, othersOf}
 use Rattle.rules.specs.Encoding.{view, bits}
 use Rattle.rules.proofs.HartSets.{bits-others}
 use Rattle.fences.specs.Trackers.{globalOf}
-use borrow.Author.Needs.{needs}
 use Rattle.effects.proofs.fencing.global_fence.Statement.{statement}
 use Rattle.effects.proofs.fencing.global_fence.Tie as tie
 

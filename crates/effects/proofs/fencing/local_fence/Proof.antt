@@ -1,11 +1,11 @@
-use mathlib.Core.Path.{_≡_, sym, _∙_, ap}
+use mathlib.Core.Path.{_≡_, _∙_, ap}
+use borrow.Author.Needs.{needs}
 use Rattle.rules.specs.Fence.{strike, number}
 use Rattle.rules.specs.Ledger.{withGlobal}
 use Rattle.rules.specs.Encoding.{view}
 use Rattle.rules.proofs.HartSets.{bits-without}
 use Rattle.fences.specs.Trackers.{globalOf}
 use Rattle.effects.proofs.Puts.{trackerWith}
-use borrow.Author.Needs.{needs}
 use Rattle.effects.proofs.fencing.local_fence.Statement.{statement}
 use Rattle.effects.proofs.fencing.local_fence.Tie as tie
 

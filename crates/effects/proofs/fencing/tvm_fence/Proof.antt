@@ -1,11 +1,11 @@
-use native.Mathlib.Omega.{arith}
-use mathlib.Core.Path.{_≡_, sym, _∙_, ap}
 use Prim.Native.Nat.{_<_}
+use mathlib.Core.Path.{_≡_, _∙_, ap}
+use native.Mathlib.Omega.{arith}
+use borrow.Author.Needs.{needs}
 use Rattle.rules.specs.Fence.{begin, number}
 use Rattle.rules.specs.Ledger.{withSlot, withFence, insidersOf}
 use Rattle.rules.specs.Encoding.{view, bits}
 use Rattle.fences.specs.Trackers.{tvmOf}
-use borrow.Author.Needs.{needs}
 use Rattle.effects.proofs.fencing.tvm_fence.Statement.{statement}
 use Rattle.effects.proofs.fencing.tvm_fence.Tie as tie
 

@@ -1,10 +1,10 @@
-use mathlib.Core.Path.{_≡_, sym, _∙_, ap}
 use Prim.Native.Nat.{ℕ}
+use mathlib.Core.Path.{_∙_, ap}
 use mathlib.Core.Bool.{Bool}
+use borrow.Author.Needs.{needs}
 use Rattle.rules.specs.Page.{over, page}
 use Rattle.rules.specs.Encoding.{pagesOf}
 use Rattle.effects.proofs.Ranges.{flat, from-zero}
-use borrow.Author.Needs.{needs}
 use Rattle.effects.proofs.pages.clear.Statement.{statement}
 use Rattle.effects.proofs.pages.clear.Tie as tie
 

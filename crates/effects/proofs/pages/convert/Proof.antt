@@ -1,12 +1,10 @@
+use mathlib.Core.Path.{_∙_}
+use borrow.Author.Needs.{needs}
+use Rattle.sets.specs.Terms.{within}
 use Rattle.rules.specs.Calls.{index}
 use Rattle.rules.specs.Encoding.{pagesOf}
-use Rattle.sets.specs.Terms.{within}
-use Rattle.rules.specs.Page.{over}
-use mathlib.Core.Path.{_≡_, sym, _∙_, ap}
-use Prim.Native.Nat.{ℕ}
-use Rattle.rules.specs.Page.{page}
+use Rattle.rules.specs.Page.{over, page}
 use Rattle.effects.proofs.Ranges.{flat}
-use borrow.Author.Needs.{needs}
 use Rattle.effects.proofs.pages.convert.Statement.{statement}
 use Rattle.effects.proofs.pages.convert.Tie as tie
 

@@ -1,10 +1,10 @@
-use mathlib.Core.Path.{_≡_, sym, _∙_, ap}
+use mathlib.Core.Path.{_∙_, ap}
+use borrow.Author.Needs.{needs}
 use Rattle.sets.specs.Terms.{within}
 use Rattle.rules.specs.Page.{Table, over, page}
 use Rattle.rules.specs.Calls.{index}
 use Rattle.rules.specs.Encoding.{pagesOf}
 use Rattle.effects.proofs.Ranges.{over-over}
-use borrow.Author.Needs.{needs}
 use Rattle.effects.proofs.pages.found.Statement.{statement}
 use Rattle.effects.proofs.pages.found.Tie as tie
 

@@ -1,4 +1,4 @@
-use mathlib.Core.Path.{_≡_, sym, _∙_, ap}
+use mathlib.Core.Path.{_∙_}
 use borrow.Author.Needs.{needs}
 use Rattle.effects.proofs.pages.give.Statement.{statement}
 use Rattle.effects.proofs.pages.give.Tie as tie

@@ -1,13 +1,12 @@
+use Prim.Native.Nat.{_-_}
+use mathlib.Core.Path.{_∙_}
+use borrow.Author.Needs.{needs}
 use Rattle.sets.specs.Terms.{within}
-use Rattle.rules.specs.Page.{over}
+use Rattle.rules.specs.Page.{over, page}
 use Rattle.rules.specs.Encoding.{pagesOf}
-use mathlib.Core.Path.{_≡_, sym, _∙_, ap}
-use Prim.Native.Nat.{ℕ, _-_}
-use Rattle.rules.specs.Page.{page}
 use Rattle.rules.specs.Calls.{index}
 use Rattle.records.specs.Passes.{stepped}
 use Rattle.effects.proofs.Ranges.{rising, word-fits}
-use borrow.Author.Needs.{needs}
 use Rattle.effects.proofs.pages.map.Statement.{statement}
 use Rattle.effects.proofs.pages.map.Tie as tie
 

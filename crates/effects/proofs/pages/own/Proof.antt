@@ -1,8 +1,8 @@
+use mathlib.Core.Path.{_∙_}
+use borrow.Author.Needs.{needs}
 use Rattle.rules.specs.Calls.{index}
 use Rattle.rules.specs.Encoding.{pagesOf}
-use mathlib.Core.Path.{_≡_, sym, _∙_, ap}
 use Rattle.effects.proofs.Ranges.{flat}
-use borrow.Author.Needs.{needs}
 use Rattle.effects.proofs.pages.own.Statement.{statement}
 use Rattle.effects.proofs.pages.own.Tie as tie
 

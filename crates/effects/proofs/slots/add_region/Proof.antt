@@ -1,8 +1,8 @@
-use mathlib.Core.Path.{_≡_, sym, _∙_, ap}
+use mathlib.Core.Path.{_∙_}
+use borrow.Author.Needs.{needs}
 use Rattle.sets.specs.Terms.{put}
 use Rattle.rules.specs.Ledger.{withSlot, slot}
 use Rattle.rules.specs.Encoding.{view}
-use borrow.Author.Needs.{needs}
 use Rattle.effects.proofs.slots.add_region.Statement.{statement}
 use Rattle.effects.proofs.slots.add_region.Tie as tie
 

@@ -1,10 +1,10 @@
-use mathlib.Core.Path.{_≡_, sym, _∙_, ap}
+use mathlib.Core.Path.{_∙_}
+use borrow.Author.Needs.{needs}
 use Rattle.rules.specs.Ledger.{Slot, withSlot, slot}
 use Rattle.rules.specs.Encoding.{view, bits}
 use Rattle.fences.specs.Trackers.{tvmOf}
 use Rattle.effects.specs.Parts.{noRegion}
 use Rattle.effects.proofs.Puts.{slot-again, nobody-made}
-use borrow.Author.Needs.{needs}
 use Rattle.effects.proofs.slots.bare.Statement.{statement}
 use Rattle.effects.proofs.slots.bare.Tie as tie
 

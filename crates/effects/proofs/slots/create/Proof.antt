@@ -1,7 +1,7 @@
-use mathlib.Core.Path.{_≡_, sym, _∙_, ap}
+use mathlib.Core.Path.{_∙_}
+use borrow.Author.Needs.{needs}
 use Rattle.rules.specs.Ledger.{withSlot, bare}
 use Rattle.rules.specs.Encoding.{view}
-use borrow.Author.Needs.{needs}
 use Rattle.effects.proofs.slots.create.Statement.{statement}
 use Rattle.effects.proofs.slots.create.Tie as tie
 

@@ -1,9 +1,9 @@
-use mathlib.Core.Path.{_≡_, sym, _∙_, ap}
+use mathlib.Core.Path.{_∙_}
+use borrow.Author.Needs.{needs}
 use Rattle.rules.specs.Ledger.{withSlot, bare}
 use Rattle.rules.specs.Encoding.{view}
 use Rattle.fences.specs.Trackers.{tvmOf}
 use Rattle.effects.specs.Parts.{endedFence}
-use borrow.Author.Needs.{needs}
 use Rattle.effects.proofs.slots.destroy.Statement.{statement}
 use Rattle.effects.proofs.slots.destroy.Tie as tie
 

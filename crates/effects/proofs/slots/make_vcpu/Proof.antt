@@ -1,10 +1,10 @@
-use mathlib.Core.Path.{_≡_, sym, _∙_, ap}
+use mathlib.Core.Path.{_∙_, ap}
 use mathlib.Core.Bool.{true}
+use borrow.Author.Needs.{needs}
 use Rattle.sets.specs.Terms.{put}
 use Rattle.rules.specs.Ledger.{withSlot, slot}
 use Rattle.rules.specs.Encoding.{view, bits}
 use Rattle.rules.proofs.HartSets.{bits-with}
-use borrow.Author.Needs.{needs}
 use Rattle.effects.proofs.slots.make_vcpu.Statement.{statement}
 use Rattle.effects.proofs.slots.make_vcpu.Tie as tie
 

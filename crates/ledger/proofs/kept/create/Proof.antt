@@ -1,7 +1,7 @@
-use mathlib.Core.Path.{_≡_, refl, sym, _∙_, ap}
+use mathlib.Core.Path.{_∙_}
+use borrow.Author.Needs.{needs}
 use Rattle.rules.specs.Ledger.{withSlot, bare}
 use Rattle.rules.specs.Encoding.{view}
-use borrow.Author.Needs.{needs}
 use Rattle.ledger.proofs.kept.create.Statement.{statement}
 use Rattle.ledger.proofs.kept.create.Tie as tie
 

@@ -1,12 +1,12 @@
-use mathlib.Core.Path.{_≡_, refl, sym, _∙_, ap}
+use mathlib.Core.Path.{_∙_}
 use borrow.Author.Tests.{ne-eqb}
+use borrow.Author.Needs.{needs}
 use Rattle.sets.specs.Terms.{oneOf, oneFrom}
 use Rattle.rules.specs.declared.Role.the-variants.{Tvm, Vcpu}
 use Rattle.rules.specs.Calls.{entryOf}
 use Rattle.rules.proofs.CallTable.{named-at}
 use Rattle.ledger.proofs.Lawful.{tvm-low, vcpu-low, hart-small, harts-small, global-version, slot-version, slot-free, is-inside}
 use Rattle.ledger.proofs.ByNumber.{kept, call-3, call-4, call-5, call-15, call-16, call-32}
-use borrow.Author.Needs.{needs}
 use Rattle.ledger.proofs.kept.on_ledger.Statement.{statement}
 use Rattle.ledger.proofs.kept.on_ledger.Tie as tie
 

@@ -1,14 +1,14 @@
-use mathlib.Core.Path.{_≡_, refl, sym, _∙_, ap}
 use Prim.Native.Nat.{_≤_}
+use mathlib.Core.Path.{refl, _∙_}
 use lib.ListN.{getD}
 use borrow.Author.Tests.{ne-eqb}
+use borrow.Author.Needs.{needs}
 use Rattle.sets.specs.Terms.{oneOf, oneFrom}
 use Rattle.rules.specs.declared.Role.the-variants.{Tvm, Vcpu, GuestBase, HartCount, PageCount}
 use Rattle.rules.specs.Calls.{entryOf}
 use Rattle.rules.proofs.CallTable.{named-at}
 use Rattle.ledger.proofs.Lawful.{tvm-low, vcpu-low, guests-low, region-free, opened-harts, opened-pages}
 use Rattle.ledger.proofs.ByNumber.{kept, call-6, call-8, call-9, call-14, call-33, call-none}
-use borrow.Author.Needs.{needs}
 use Rattle.ledger.proofs.kept.on_slots.Statement.{statement}
 use Rattle.ledger.proofs.kept.on_slots.Tie as tie
 

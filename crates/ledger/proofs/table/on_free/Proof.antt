@@ -1,21 +1,20 @@
 use Prim.Native.Nat.{ℕ, _+_, _-_, _/_}
 use mathlib.Core.Bool.{cond, _||_}
+use mathlib.Core.Path.{_≡_, sym, _∙_}
+use native.Mathlib.Omega.{arith}
 use lib.Dec.{eqb}
-use Rattle.sets.specs.Terms.{within}
+use borrow.Author.Needs.{needs}
+use Rattle.sets.specs.Terms.{within, oneOf, oneFrom}
+use Rattle.sets.proofs.Looks.{lowest-le}
 use Rattle.rules.specs.Page.{over, page, guestWord}
 use Rattle.rules.specs.Refusals.{taken}
-use mathlib.Core.Path.{_≡_, refl, sym, _∙_, ap}
-use native.Mathlib.Omega.{arith}
-use Rattle.sets.specs.Terms.{oneOf, oneFrom}
-use Rattle.sets.proofs.Looks.{lowest-le}
 use Rattle.rules.specs.declared.Role.the-variants.{Tvm, FreeBase, DirectoryBase, UnitType, GuestBase}
 use Rattle.rules.specs.Calls.{entryOf, names, size, index}
 use Rattle.rules.specs.Encoding.{view, pagesOf}
 use Rattle.rules.proofs.CallTable.{named-at}
-use Rattle.refusals.specs.Room.{takeableAt}
-use Rattle.refusals.proofs.Ready.{free-fits, directory-fits, tvm-fits, pages-fit, guest-fits, typed-tvm, typed-guest, typed-not-9}
+use Rattle.seats.specs.Room.{takeableAt}
+use Rattle.door.proofs.Ready.{free-fits, directory-fits, tvm-fits, pages-fit, guest-fits, typed-tvm, typed-guest, typed-not-9}
 use Rattle.ledger.proofs.ByNumber.{table-2, table-5, table-10, table-14, table-typed, typed-free}
-use borrow.Author.Needs.{needs}
 use Rattle.ledger.proofs.table.on_free.Statement.{statement}
 use Rattle.ledger.proofs.table.on_free.Tie as tie
 

@@ -1,14 +1,14 @@
-use mathlib.Core.Path.{_≡_, refl, sym, _∙_, ap}
 use Prim.Native.Nat.{ℕ, _/_}
+use mathlib.Core.Path.{sym, _∙_, ap}
 use native.Mathlib.Omega.{arith}
+use borrow.Author.Needs.{needs}
 use Rattle.sets.specs.Terms.{row}
 use Rattle.rules.specs.declared.Role.the-variants.{Tvm, GuestBase}
 use Rattle.rules.specs.Page.{over, isMeant}
 use Rattle.rules.specs.Encoding.{view, pagesOf}
 use Rattle.records.specs.Passes.{becomes}
-use Rattle.refusals.proofs.Ready.{moves-tvm, moves-guest, moves-not-9, guest-not-open, tvm-fits, guest-fits, pages-fit, all-records}
+use Rattle.door.proofs.Ready.{moves-tvm, moves-guest, moves-not-9, guest-not-open, tvm-fits, guest-fits, pages-fit, all-records}
 use Rattle.ledger.proofs.ByNumber.{table-moved}
-use borrow.Author.Needs.{needs}
 use Rattle.ledger.proofs.table.on_guests.Statement.{statement}
 use Rattle.ledger.proofs.table.on_guests.Tie as tie
 

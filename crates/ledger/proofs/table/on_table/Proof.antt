@@ -1,15 +1,15 @@
-use mathlib.Core.Path.{_≡_, refl, sym, _∙_, ap}
+use mathlib.Core.Path.{sym, _∙_}
 use mathlib.Core.Bool.{_&&_}
 use lib.Dec.{ltb, eqb}
+use borrow.Author.Needs.{needs}
 use Rattle.sets.specs.Terms.{oneOf, oneFrom, within}
 use Rattle.rules.specs.declared.Role.the-variants.{Tvm, HostBase, FreeBase, PageCount}
 use Rattle.rules.specs.Page.{over, page, isGiven}
 use Rattle.rules.specs.Calls.{entryOf, index}
 use Rattle.rules.specs.Encoding.{view, pagesOf}
 use Rattle.rules.proofs.CallTable.{named-at}
-use Rattle.refusals.proofs.Ready.{host-fits, pages-fit, tvm-fits, all-records, opening-fits}
+use Rattle.door.proofs.Ready.{host-fits, pages-fit, tvm-fits, all-records, opening-fits}
 use Rattle.ledger.proofs.ByNumber.{table-1, table-8, table-33, table-none}
-use borrow.Author.Needs.{needs}
 use Rattle.ledger.proofs.table.on_table.Statement.{statement}
 use Rattle.ledger.proofs.table.on_table.Tie as tie
 

@@ -1,7 +1,7 @@
 use mathlib.Core.Path.{sym, _∙_}
+use borrow.Author.Needs.{needs}
 use Rattle.sets.proofs.OneOf.{one-off}
 use Rattle.rules.specs.Refusals.{refusal, refuses4}
-use borrow.Author.Needs.{needs}
 use Rattle.refusals.proofs.number.refusal.Statement.{statement}
 use Rattle.refusals.proofs.number.refusal.Tie as tie
 

@@ -1,0 +1,84 @@
+"""frames.py LIBRARY ENTRY: the deepest stack of ENTRY in a static library for x86-64, from its object code, in bytes, with the entry's own return
+address; then the chain of calls that goes so deep, and what the library needs from elsewhere. Fails on what it cannot follow: an indirect call, a
+recursion, or a stack pointer that moves by no constant."""
+import re
+import subprocess
+import sys
+
+library, entry = sys.argv[1:3]
+dump = subprocess.run(["objdump", "-dr", "--no-show-raw-insn", library], check=True, capture_output=True, text=True).stdout
+
+frames, calls = {}, {}
+name = None
+depth = 0
+pending = None
+before = []
+for line in dump.splitlines():
+    start = re.match(r"^[0-9a-f]+ <(.+)>:$", line)
+    if start:
+        name, depth, before = start.group(1), 0, []
+        frames[name], calls[name] = 0, set()
+        continue
+    if name is None:
+        continue
+    reloc = re.search(r"R_X86_64_(?:PLT32|PC32|GOTPCREL\w*)\s+([^\s+-]+)", line)
+    if reloc and pending:
+        calls[name].add((pending, depth_at_call, reloc.group(1).removeprefix(".text.")))
+        pending = None
+        continue
+    pending = None
+    instruction = re.match(r"^\s*[0-9a-f]+:\s+(\S+)\s*(.*)$", line)
+    if not instruction:
+        continue
+    op, args = instruction.groups()
+    # a table of jumps inside the function: its entry is loaded just before
+    table = any(o == "movslq" for o in before[-3:])
+    before.append(op)
+    if op == "push":
+        depth += 8
+    elif op == "pop":
+        depth -= 8
+    elif op in ("sub", "add") and args.endswith("%rsp"):
+        amount = re.match(r"^\$0x([0-9a-f]+),%rsp$", args)
+        if not amount:
+            sys.exit(f"{name}: the stack pointer moves by no constant: {line.strip()}")
+        value = int(amount.group(1), 16)
+        if value >= 1 << 63:
+            value -= 1 << 64
+        depth += value if op == "sub" else -value
+    elif op in ("ret", "retq"):
+        # what follows a return is another way through the function, with the frame as it stood before
+        depth = frames[name]
+    elif op.startswith("call") or op.startswith("jmp"):
+        direct = re.match(r"^[0-9a-f]+ <([^>+]+)(\+0x[0-9a-f]+)?>$", args)
+        if args.startswith("*") and op.startswith("jmp") and table:
+            continue
+        if args.startswith("*"):
+            sys.exit(f"{name}: a call that cannot be followed: {line.strip()}")
+        if op.startswith("call") or (direct and direct.group(1) != name):
+            pending, depth_at_call = op, depth
+            if direct and direct.group(1) != name and not direct.group(2):
+                calls[name].add((op, depth, direct.group(1)))
+                pending = None
+    frames[name] = max(frames[name], depth)
+
+needed = sorted({callee for edges in calls.values() for _, _, callee in edges} - set(frames))
+
+
+def deepest(f, above):
+    if f in above:
+        sys.exit(f"a recursion: {' '.join(above)} {f}")
+    if f not in frames:
+        return 8, [f]
+    best = 8 + frames[f], [f]
+    for _, _, callee in calls[f]:
+        d, chain = deepest(callee, above + [f])
+        if 8 + frames[f] + d > best[0]:
+            best = 8 + frames[f] + d, [f] + chain
+    return best
+
+
+bytes_deep, chain = deepest(entry, [])
+print(bytes_deep)
+print(" > ".join(chain))
+print("needs " + (" ".join(needed) or "nothing"))
