@@ -5,3 +5,4 @@ pub mod Sizes
 pub mod Printing
 pub mod Starts
 pub mod Promised
+pub mod Example
