@@ -1,5 +1,5 @@
--- The decimal digits of a number: enough of them are all, and how many they are. Assumes nothing.
-use Prim.Native.Nat.{ℕ, zero, suc, _+_, _*_, _/_, _%_, _^_, _<_, _≤_}
+-- The decimal digits of a number: enough of them are all, how many they are, and that they say the number. Assumes nothing.
+use Prim.Native.Nat.{ℕ, zero, suc, _+_, _-_, _*_, _/_, _%_, _^_, _<_, _≤_}
 use mathlib.Core.Path.{_≡_, refl, sym, ap, _∙_}
 use mathlib.Core.Bool.{Bool, true, false, cond}
 use mathlib.Core.List.{List, [], _∷_, _++_}
@@ -9,6 +9,7 @@ use lib.ListN.{length, length-append}
 use borrow.Author.Tests.{lt-ltb, le-ltb, ltb-true, ltb-false}
 use Rattle.sets.proofs.Bools.{by-test}
 use Rattle.lines.specs.Text.{digits, decimal}
+use Rattle.lines.specs.Promises.{reads, DecimalReads}
 
 -- more digits than ones are not needed
 enough : (a b n : ℕ) → n < a → n < b → digits a n ≡ digits b n
@@ -37,3 +38,18 @@ few (suc k) n (suc m) h l =
 
 pub at-most : (k n : ℕ) → n < 10 ^ suc k → length (decimal n) ≤ suc k
 at-most k n h = few k n (suc n) h (omega arith)
+
+-- what digits say, read on from a number
+reads-append : (a b : List ℕ) (n : ℕ) → reads n (a ++ b) ≡ reads (reads n a) b
+reads-append [] b n = refl
+reads-append (d ∷ a) b n = reads-append a b (10 * n + (d - 48))
+
+reads-digits : (m n : ℕ) → n < m → reads 0 (digits m n) ≡ n
+unfolding digits
+reads-digits zero n h = absurd (omega arith)
+reads-digits (suc m) n h =
+    by-test (ltb n 10) (λ e. rw e (omega arith))
+    (λ e. let l = ltb-false n 10 e in rw (e, reads-append (digits m (n / 10)) ((48 + n % 10) ∷ []) 0, reads-digits m (n / 10) (omega arith)) (omega arith))
+
+pub decimal-reads : DecimalReads
+decimal-reads n = reads-digits (suc n) n (omega arith)

@@ -1,6 +1,16 @@
--- What follows from the promise of `print`, as statements.
-use Rattle.sets.specs.Terms.{ℕ, _≤_, _≡_, List, length}
+-- What is proved of the definitions, and what follows from the promise of `print`, as statements.
+use Rattle.sets.specs.Terms.{ℕ, _+_, _-_, _*_, _≤_, _≡_, List, [], _∷_, length}
+use Rattle.lines.specs.Text.{decimal}
 use Rattle.lines.specs.Lines.{Printed}
+
+-- what digits say, after those that said n
+abbrev pub reads : ℕ → List ℕ → ℕ
+reads n [] = n
+reads n (d ∷ ds) = reads (10 * n + (d - 48)) ds
+
+-- The digits of a number say that number, so no two numbers print alike
+abbrev pub DecimalReads : Type 0
+DecimalReads = (n : ℕ) → reads 0 (decimal n) ≡ n
 
 -- The end is in the lent bytes: what is printed has room
 abbrev pub Within : Type 0
