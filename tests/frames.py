@@ -12,11 +12,11 @@ frames, calls = {}, {}
 name = None
 depth = 0
 pending = None
-before = []
+jumps = {}
 for line in dump.splitlines():
     start = re.match(r"^[0-9a-f]+ <(.+)>:$", line)
     if start:
-        name, depth, before = start.group(1), 0, []
+        name, depth, jumps = start.group(1), 0, {}
         frames[name], calls[name] = 0, set()
         continue
     if name is None:
@@ -31,9 +31,15 @@ for line in dump.splitlines():
     if not instruction:
         continue
     op, args = instruction.groups()
-    # a table of jumps inside the function: its entry is loaded just before
-    table = any(o == "movslq" for o in before[-3:])
-    before.append(op)
+    # a table of jumps inside the function: an entry is loaded, the table's address is added to it, and the sum is jumped to
+    written = args.split(",")[-1].split()[0] if args else ""
+    if op == "movslq":
+        jumps[written] = "entry"
+    elif op == "add" and jumps.get(written) == "entry":
+        jumps[written] = "target"
+    elif op not in ("cmp", "test", "jmp"):
+        jumps.pop(written, None)
+    table = jumps.get(args.lstrip("*")) == "target"
     if op == "push":
         depth += 8
     elif op == "pop":

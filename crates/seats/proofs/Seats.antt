@@ -1,11 +1,12 @@
--- Who is where, as a test of the place.
+-- Who is where, as a test of the place; and conditions that only some calls have.
 -- Assumes nothing.
 use Prim.Native.Nat.{ℕ, _≤_}
-use mathlib.Core.Path.{_≡_, refl}
+use mathlib.Core.Path.{_≡_, refl, sym, _∙_}
 use mathlib.Core.Bool.{Bool, true, false, _&&_, _||_}
 use mathlib.Core.List.{List}
 use lib.Dec.{eqb}
-use borrow.Author.Tests.{le-ltb}
+use borrow.Author.Tests.{le-ltb, ne-eqb}
+use Rattle.sets.proofs.Bools.{or-false}
 use Rattle.rules.specs.Ledger.{inside, outside}
 use Rattle.rules.specs.Encoding.{view, viewOf}
 use Rattle.seats.specs.Harts.{isThere, thereOf}
@@ -26,3 +27,32 @@ pub far-outside : (ws : List ℕ) (whole : Bool) (k v j : ℕ) → 8 ≤ j → t
 unfolding viewOf
 far-outside ws true k v j h = rw (le-ltb j 8 h)
 far-outside ws false k v j h = rw (le-ltb j 8 h)
+
+-- ---- conditions of one call, by its number
+module _ (n : ℕ) (a b : Bool) where
+  pub at-5 : n ≡ 5 → a ≡ (eqb n 5 && a || eqb n 9 && b)
+  at-5 e = rw e (sym (or-false a))
+
+  pub at-9 : n ≡ 9 → b ≡ (eqb n 5 && a || eqb n 9 && b)
+  at-9 e = rw e
+
+  pub at-neither : (n ≡ 5 → ⊥) → (n ≡ 9 → ⊥) → false ≡ (eqb n 5 && a || eqb n 9 && b)
+  at-neither n5 n9 = rw (ne-eqb n 5 n5, ne-eqb n 9 n9)
+
+module _ (n : ℕ) (a b d : Bool) where
+  pub at-14 : n ≡ 14 → a ≡ (eqb n 14 && a || eqb n 15 && b || eqb n 8 && d)
+  at-14 e = rw e (sym (or-false (a || false) ∙ or-false a))
+
+  pub at-15 : n ≡ 15 → b ≡ (eqb n 14 && a || eqb n 15 && b || eqb n 8 && d)
+  at-15 e = rw e (sym (or-false b))
+
+  pub at-8 : n ≡ 8 → d ≡ (eqb n 14 && a || eqb n 15 && b || eqb n 8 && d)
+  at-8 e = rw e
+
+  pub at-none : (n ≡ 8 → ⊥) → (n ≡ 14 → ⊥) → (n ≡ 15 → ⊥) → false ≡ (eqb n 14 && a || eqb n 15 && b || eqb n 8 && d)
+  at-none n8 n14 n15 = rw (ne-eqb n 8 n8, ne-eqb n 14 n14, ne-eqb n 15 n15)
+
+-- a test before three
+pub before-three : (x a b d : Bool) → (x || (a || b || d)) ≡ (x || a || b || d)
+before-three true a b d = refl
+before-three false a b d = refl

@@ -5,7 +5,7 @@ ghost use Rattle.rules.specs.Refusals as n;
 ghost use Rattle.rules.specs.Encoding.{view, pagesOf, bits};
 ghost use Rattle.words.specs.Parts.{placeIs};
 ghost use Rattle.door.specs.Asked.{Asked};
-ghost use Rattle.seats.specs.Harts.{isThere, thereOf};
+ghost use Rattle.seats.specs.Harts.{isThere, thereOf, busyBy};
 use super::fencing::is_awaited;
 use door::early::is_made;
 use door::roles::TVM;
@@ -52,6 +52,18 @@ pub fn there(l: &[u32; 426], whole: bool, k: u64, v: u64) -> u8
     set
 }
 
+// What refuses 8, 14 and 15 besides: somebody inside, a vCPU that is made, one that runs.
+fn is_busy(l: &[u32; 426], number: u64, tvm: u64, vcpu: u64) -> bool
+    ensures { λ r. ⌜ r ≡ busyBy (view (now (l .entry))) number tvm vcpu ⌝ }
+{
+    match number {
+        8 => is_awaited(there(l, true, tvm, vcpu)),
+        14 => is_made(l, tvm, vcpu),
+        15 => is_awaited(there(l, false, tvm, vcpu)),
+        _ => false,
+    }
+}
+
 pub fn refuses12(l: &[u32; 426], t: &[u8], q: Call, a: &[u64; 12]) -> bool
     requires { ⌜ Asked q (now a) ⌝ }
     ensures { λ r. ⌜ r ≡ n.refuses12 (view (now (l .entry))) (pagesOf (now (t .entry))) q ⌝ }
@@ -60,13 +72,8 @@ pub fn refuses12(l: &[u32; 426], t: &[u8], q: Call, a: &[u64; 12]) -> bool
     let tvm = a[TVM];
     let vcpu = a[VCPU];
     let outside = is_outside(l, q.hart);
-    let made = is_made(l, tvm, vcpu);
-    let running = is_awaited(there(l, false, tvm, vcpu));
-    let entered = is_awaited(there(l, true, tvm, vcpu));
-    (!(number == 32) & !outside)
-        | ((number == 14) & made)
-        | ((number == 15) & running)
-        | ((number == 8) & entered)
+    let busy = is_busy(l, number, tvm, vcpu);
+    (!(number == 32) & !outside) | busy
 }
 
 pub fn refuses15(l: &[u32; 426], t: &[u8], q: Call) -> bool

@@ -57,7 +57,9 @@ pub fn refuses9(l: &[u32; 426], t: &[u8], q: Call, a: &[u64; 12]) -> bool
     ensures { λ r. ⌜ r ≡ n.refuses9 (view (now (l .entry))) (pagesOf (now (t .entry))) q ⌝ }
 {
     let number = q.number;
-    let slot = taken(l);
-    let place = unused(l, a[TVM]);
-    ((number == 5) & !(slot < 16)) | ((number == 9) & !(place < 8))
+    match number {
+        5 => !(taken(l) < 16),
+        9 => !(unused(l, a[TVM]) < 8),
+        _ => false,
+    }
 }

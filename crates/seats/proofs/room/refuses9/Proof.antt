@@ -1,8 +1,7 @@
 use Prim.Native.Nat.{ℕ}
-use mathlib.Core.Path.{_≡_, _∙_, ap}
-use mathlib.Core.Bool.{not, _&&_, _||_}
-use lib.Dec.{ltb, eqb}
-use borrow.Author.Needs.{needs}
+use mathlib.Core.Path.{_∙_, ap}
+use mathlib.Core.Bool.{not}
+use lib.Dec.{ltb}
 use Rattle.sets.specs.Look.{any, lowest}
 use Rattle.sets.proofs.Looks.{lowest-any}
 use Rattle.rules.specs.declared.Role.the-variants.{Tvm}
@@ -10,6 +9,8 @@ use Rattle.rules.specs.Calls.{arg}
 use Rattle.rules.specs.Refusals.{refuses9}
 use Rattle.rules.specs.Encoding.{view}
 use Rattle.seats.specs.Room.{takeableAt, unusedAt}
+use Rattle.seats.proofs.Seats.{at-5, at-9, at-neither}
+use borrow.Author.Needs.{needs}
 use Rattle.seats.proofs.room.refuses9.Statement.{statement}
 use Rattle.seats.proofs.room.refuses9.Tie as tie
 
@@ -25,12 +26,23 @@ unused-requires c κs = search needs
 returns : tie.Need-returns
 unfolding refuses9
 returns c =
+    let l = view (c .before .before .before .args .l .now) in
+    ap (λ (x : ℕ). not (ltb x 16)) (c .taken .ensures) ∙ ap not (lowest-any (takeableAt l) 16) ∙ at-5 (c .before .before .before .args .q .number) (not (any (takeableAt l) 16)) _ (c .before .match .keys1)
+
+returns-2 : tie.Need-returns-2
+unfolding refuses9
+returns-2 c =
     let s = c .before .before .before .before in
     let l = view (s .args .l .now) in
     let k = arg Tvm (s .args .q) in
-    let slot : _ ≡ any (takeableAt l) 16 = ap (λ (x : ℕ). ltb x 16) (c .before .before .taken .ensures) ∙ lowest-any (takeableAt l) 16 in
-    let place : _ ≡ any (unusedAt l k) 8 = ap (λ (x : ℕ). ltb x 8) (c .unused .ensures ∙ ap (λ (x : ℕ). lowest (unusedAt l x) 8) (s .pre .value Tvm)) ∙ lowest-any (unusedAt l k) 8 in
-    λ i. eqb (s .args .q .number) 5 && not (slot i) || eqb (s .args .q .number) 9 && not (place i)
+    ap (λ (x : ℕ). not (ltb x 8)) (c .unused .ensures ∙ ap (λ (x : ℕ). lowest (unusedAt l x) 8) (s .pre .value Tvm)) ∙ ap not (lowest-any (unusedAt l k) 8)
+    ∙ at-9 (s .args .q .number) _ (not (any (unusedAt l k) 8)) (c .before .before .match .keys2)
+
+returns-3 : tie.Need-returns-3
+unfolding refuses9
+returns-3 c = at-neither (c .before .before .args .q .number) _ _ (c .match .rest .0 .1) (c .match .rest .1)
 
 pub refuses9-spec : {M : Type 1} → statement M
-refuses9-spec = tie.close (tie.spec taken-requires element-copy-out-unused unused-requires returns)
+refuses9-spec =
+    tie.close
+    (tie.spec taken-requires element-copy-out-unused unused-requires returns returns-2 returns-3)
