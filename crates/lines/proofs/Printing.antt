@@ -1,13 +1,13 @@
 -- Part way through a tape: what is written, and what is still to come. Assumes nothing.
 use Prim.Native.Nat.{ℕ, suc, _+_, _-_, _*_, _/_, _^_, _<_, _≤_}
 use mathlib.Core.Path.{_≡_, refl, sym, ap, _∙_}
-use mathlib.Core.List.{List, [], _∷_, _++_, append-nil, append-assoc}
+use mathlib.Core.List.{List, [], _++_, append-assoc}
 use native.Mathlib.Nat.{sub-zero}
 use native.Mathlib.Numerals.{add-one}
 use native.Mathlib.Omega.{arith}
 use lib.ListN.{length, length-append}
 use Rattle.rules.specs.declared.Answer.{Answer}
-use Rattle.rules.specs.Step.{State, Outcome, step, answers, valueOf}
+use Rattle.rules.specs.Step.{State, answers}
 use Rattle.rules.specs.Encoding.{Called, stateOf}
 use Rattle.tape.specs.declared.record.Step.{Step}
 use Rattle.tape.specs.declared.record.Step.the-variants.{Record}
@@ -18,7 +18,6 @@ use Rattle.tape.proofs.Readings.{stopped}
 use Rattle.lines.specs.Text.{Written}
 use Rattle.lines.specs.Lines.{line, bad, lines, linesFrom}
 use Rattle.lines.proofs.Writes.{none, joined, kept}
-use Rattle.lines.proofs.Sizes.{line-size, bad-size}
 
 -- all that comes from a place on, where so many records are read
 abbrev pub onFrom : List ℕ → State → ℕ → ℕ → List ℕ

@@ -1,19 +1,17 @@
 -- What a run starts from: zero bytes, a ledger that is not open, and as many records as the first record asks for. Assumes nothing.
-use Prim.Native.Nat.{ℕ, zero, suc, _+_, _*_, _/_, _<_, _≤_}
-use mathlib.Core.Path.{_≡_, refl, sym, ap, _∙_}
+use Prim.Native.Nat.{ℕ, zero, suc, _*_, _/_, _<_, _≤_}
+use mathlib.Core.Path.{_≡_, refl, ap}
 use mathlib.Core.Bool.{cond}
-use mathlib.Core.List.{List, [], _∷_, _++_}
+use mathlib.Core.List.{List, _∷_, _++_}
 use native.Mathlib.Omega.{arith}
 use lib.Dec.{leb}
-use lib.ListN.{length, take, drop, replicate, length-replicate}
+use lib.ListN.{length, take, replicate, length-replicate}
 use borrow.Author.Tests.{lt-ltb, le-ltb}
-use Rattle.rules.specs.Ledger.{Ledger}
 use Rattle.rules.specs.Encoding.{stateOf, pagesOf}
-use Rattle.rules.specs.Step.{State}
 use Rattle.rules.proofs.Unique.{zeros-unopened}
 use Rattle.tape.specs.declared.record.Step.{Step}
 use Rattle.tape.specs.declared.record.Step.the-variants.{End, Short, Mark, Record}
-use Rattle.tape.specs.Tape.{stepAt, partOf, argsAt, word, onward, readFrom, reading, Reading}
+use Rattle.tape.specs.Tape.{stepAt, argsAt, word, onward, readFrom, reading, Reading}
 use Rattle.tape.specs.Promises.{Stops}
 use Rattle.tape.proofs.Steps.{none-left}
 use Rattle.lines.specs.Text.{newline}

@@ -1,7 +1,4 @@
 -- `lines::line::bad` meets its contract, arm by arm.
-use mathlib.Core.Path.{_≡_, ap}
-use Rattle.tape.specs.declared.record.Step.{Step}
-use Rattle.lines.specs.Lines.{bad as Lines·bad}
 use Rattle.lines.proofs.Writes.{none}
 use borrow.Author.Needs.{needs}
 use Rattle.lines.proofs.line.bad.Statement.{statement}

@@ -1,15 +1,12 @@
 -- `lines::line::line` meets its contract: the number's field, the call's, then what was told.
-use Prim.Native.Nat.{ℕ, _+_, _^_, _<_, _≤_}
-use mathlib.Core.Path.{_≡_, sym, ap, _∙_}
+use Prim.Native.Nat.{ℕ, _≤_}
+use mathlib.Core.Path.{_≡_, sym, _∙_}
 use mathlib.Core.List.{List, _++_, append-assoc}
 use native.Mathlib.Omega.{arith}
-use lib.IntN.{ℤ}
 use lib.ListN.{length}
 use mir.Syntax.{w64}
 use mir.Val.{toZ, ofZ}
-use denote.Ref.{now}
-use Rattle.rules.specs.declared.Answer.{Answer}
-use Rattle.lines.specs.Text.{decimal, blank, Written}
+use Rattle.lines.specs.Text.{decimal, blank}
 use Rattle.lines.specs.Lines.{told, line as Lines·line}
 use Rattle.lines.proofs.Writes.{joined, room, shorter}
 use Rattle.lines.proofs.Signs.{held}

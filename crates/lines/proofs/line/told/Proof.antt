@@ -1,9 +1,6 @@
 -- `lines::line::told` meets its contract: the error, a blank, the value and the line's end.
-use mathlib.Core.Path.{_≡_, ap}
 use mathlib.Core.List.{_++_}
 use native.Mathlib.Omega.{arith}
-use mir.Syntax.{w64}
-use mir.Val.{toZ, ofZ}
 use denote.Ref.{now}
 use Rattle.lines.specs.Text.{decimal, signed, blank, newline, Written}
 use Rattle.lines.proofs.Writes.{joined, room, shorter}

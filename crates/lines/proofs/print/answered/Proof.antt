@@ -1,5 +1,4 @@
 -- `lines::print::answered` meets its contract: the call is what the record asks.
-use mathlib.Core.Path.{_≡_, ap, _∙_}
 use borrow.Author.Needs.{needs}
 use Rattle.lines.proofs.print.answered.Statement.{statement}
 use Rattle.lines.proofs.print.answered.Tie as tie

@@ -1,7 +1,7 @@
 -- `lines::print::handed` meets its contract: where no good record stands, its argument is 0.
 use mathlib.Core.Path.{_≡_, sym, ap, _∙_}
 use native.Mathlib.Omega.{arith}
-use Prim.Native.Nat.{ℕ, _≤_}
+use Prim.Native.Nat.{ℕ}
 use mathlib.Core.List.{List}
 use denote.Ref.{now}
 use borrow.Author.Tests.{le-leb, lt-leb}

@@ -1,22 +1,21 @@
 -- `lines::print::lines` meets its contract. The invariant: what is written so far, and what is still to come, is the whole. The measure is what is
 -- left of the tape.
-use Prim.Native.Nat.{_+_, _-_, _^_, _<_, _≤_}
+use Prim.Native.Nat.{_+_, _-_}
 use mathlib.Core.Path.{_≡_, refl, sym, ap, _∙_}
 use native.Mathlib.Omega.{arith}
 use lib.ListN.{length}
 use denote.Ref.{now}
 use borrow.Author.Tests.{le-leb}
 use borrow.Author.Needs.{needs}
-use Rattle.rules.specs.Step.{valueOf}
 use Rattle.rules.specs.Encoding.{stateOf}
 use Rattle.tape.specs.declared.record.Step.{Step}
 use Rattle.tape.specs.declared.record.Step.the-variants.{End, Record}
 use Rattle.tape.specs.declared.reader.Went.{Went}
 use Rattle.tape.specs.Tape.{stepAt, afterOf, reading}
 use Rattle.tape.proofs.Steps.{passed, stops}
-use Rattle.lines.specs.Lines.{line as Lines·line, linesFrom}
+use Rattle.lines.specs.Lines.{linesFrom}
 use Rattle.lines.proofs.Writes.{kept, none}
-use Rattle.lines.proofs.Sizes.{line-size, bad-size}
+use Rattle.lines.proofs.Sizes.{bad-size}
 use Rattle.lines.proofs.Printing.{Printing, begun, more, ending, one-fits, small-number}
 use Rattle.lines.proofs.print.lines.Statement.{statement}
 use Rattle.lines.proofs.print.lines.Tie as tie

@@ -1,5 +1,5 @@
 -- `lines::print::print` meets its contract: a long tape's word, or the lines from zero words and zero bytes.
-use Prim.Native.Nat.{ℕ, _*_}
+use Prim.Native.Nat.{_*_}
 use mathlib.Core.Path.{_≡_, sym, ap, _∙_}
 use native.Mathlib.Omega.{arith}
 use lib.ListN.{length, take}

@@ -1,9 +1,9 @@
 use Prim.Native.Nat.{ℕ, _<_, _/_, _%_, _+_}
-use mathlib.Core.Path.{_≡_, sym, ap, subst, _∙_}
-use mathlib.Core.List.{List, [], _∷_}
+use mathlib.Core.Path.{ap, _∙_}
+use mathlib.Core.List.{[], _∷_}
 use native.Mathlib.Omega.{arith}
 use lib.ListN.{length, length-append}
-use Rattle.lines.specs.Text.{decimal as Text·decimal, Written}
+use Rattle.lines.specs.Text.{decimal as Text·decimal}
 use Rattle.lines.proofs.Writes.{joined, kept}
 use Rattle.lines.proofs.Decimals.{one-digit, more-digits}
 use borrow.Fn.Kinds.{In}

@@ -1,5 +1,5 @@
 -- `lines::text::size` meets its contract: what the machine reckons from -1 is one less than the size.
-use mathlib.Core.Path.{_≡_, ap, _∙_}
+use mathlib.Core.Path.{_≡_, ap}
 use mathlib.Core.Bool.{true, false}
 use native.Mathlib.Omega.{arith}
 use lib.IntN.{pos, natAbs}

@@ -1,6 +1,5 @@
 -- `lines::text::word` meets its contract. The invariant: the bytes passed are written.
 use Prim.Native.Nat.{_+_, _-_, _≤_}
-use mathlib.Core.Path.{ap}
 use native.Mathlib.Nat.{add-zero}
 use native.Mathlib.Omega.{arith}
 use lib.ListN.{length, take}
