@@ -7,7 +7,7 @@ use crate::engine::{Engine, Proved, Reply, Second};
 use crate::script::{Part, Row, Step, Workload};
 
 /// Shorter parts are not timed: the clock would be most of it.
-const SHORTEST: Duration = Duration::from_micros(2);
+const SHORTEST: Duration = Duration::from_micros(1);
 
 /// Every part with a row, and the row.
 pub fn rows(works: &[Workload]) -> impl Iterator<Item = (&Part, &Row)> {

@@ -151,16 +151,33 @@ fn workloads(lines: &[Line]) {
     }
 }
 
+/// The line of the same name at the next lower size.
+fn lower<'l, 'w>(lines: &'l [Line<'w>], line: &Line) -> Option<&'l Line<'w>> {
+    lines
+        .iter()
+        .filter(|other| other.key() == line.key() && other.row.pages < line.row.pages)
+        .max_by_key(|other| other.row.pages)
+}
+
+/// Of a further record there is nothing to say where large pages take another
+/// share of the table.
 fn records(lines: &[Line]) {
     println!("\n### Instructions a record\n");
-    println!("| workload | pages | proved, a record of the table | looks | proved, a record looked at | second, a record of the table |");
-    println!("|---|--:|--:|--:|--:|--:|");
+    println!("| workload | pages | proved, a record of the table | looks | a record looked at | each further one looked at | second, a record of the table |");
+    println!("|---|--:|--:|--:|--:|--:|--:|");
     for line in sorted(lines) {
         if let (Some((of_table, of_look)), Some(looks)) = (line.a_record(), line.row.looks) {
+            let further = lower(lines, line)
+                .filter(|_| !line.row.name.contains("large"))
+                .map(|less| {
+                    let more = line.row.pages - less.row.pages;
+                    (line.proved - less.proved) / (more * looks) as f64
+                });
             println!(
-                "| {} | {} | {of_table:.1} | {looks} | {of_look:.1} | {:.1} |",
+                "| {} | {} | {of_table:.1} | {looks} | {of_look:.1} | {} | {:.1} |",
                 line.row.name,
                 pages(line.row.pages),
+                further.map_or("–".to_string(), |further| format!("{further:.1}")),
                 line.second / line.row.pages as f64
             );
         }
@@ -171,14 +188,8 @@ fn records(lines: &[Line]) {
 fn grown<'l, 'w>(lines: &'l [Line<'w>]) -> Vec<(&'l Line<'w>, &'l Line<'w>)> {
     let mut pairs = Vec::new();
     for large in lines.iter().filter(|line| line.row.grows) {
-        let less = lines
-            .iter()
-            .filter(|line| line.key() == large.key() && line.row.pages < large.row.pages)
-            .max_by_key(|line| line.row.pages);
-        let more = lines
-            .iter()
-            .any(|line| line.key() == large.key() && line.row.pages > large.row.pages);
-        if let (Some(less), false) = (less, more) {
+        let more = |line: &Line| line.key() == large.key() && line.row.pages > large.row.pages;
+        if let (Some(less), false) = (lower(lines, large), lines.iter().any(more)) {
             pairs.push((less, large));
         }
     }
@@ -206,7 +217,7 @@ fn growth(lines: &[Line]) {
         .partition(|(less, large)| less.proved == large.proved);
     for (less, large) in grown {
         println!(
-            "| {} | {} | {} | {:.2} | {:.2} | {:.1} |",
+            "| {} | {} | {} | {:.2} | {:.2} | {:.2} |",
             large.row.name,
             pages(less.row.pages),
             pages(large.row.pages),

@@ -265,6 +265,19 @@ fn blocked(pages: usize, count: Option<usize>) -> Workload {
     work
 }
 
+/// The one guest page of a TVM; all other records are free ones.
+fn blocked_only(pages: usize) -> Workload {
+    let rows = Rows {
+        group: "Guest pages blocked and removed",
+        pages,
+    };
+    let mut work = Workload::default();
+    work.quiet(runnable(pages));
+    work.quiet([zero(pages / 2, false, 1, 0)]);
+    moved(&mut work, &rows, "the TVM's only guest page", 0, 1);
+    work
+}
+
 fn blocked_large(pages: usize) -> Workload {
     let rows = Rows {
         group: "Guest pages blocked and removed",
@@ -465,6 +478,7 @@ pub fn all(small: bool, tapes: &Path) -> io::Result<Vec<Workload>> {
     works.extend(sizes.iter().map(|&pages| built_by_pages(pages)));
     works.extend(sizes.iter().map(|&pages| measured_in_one(pages)));
     works.extend(large.iter().map(|&pages| built_by_large(pages)));
+    works.extend(sizes.iter().map(|&pages| blocked_only(pages)));
     works.extend(sizes.iter().map(|&pages| blocked(pages, Some(1))));
     if !small {
         works.push(blocked(4_096, Some(512)));
