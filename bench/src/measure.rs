@@ -1,5 +1,6 @@
 //! The three ways to run the workloads: compared, counted and timed.
 
+use std::slice;
 use std::time::{Duration, Instant};
 
 use crate::callgrind;
@@ -42,10 +43,11 @@ pub fn compare(works: &[Workload]) -> Result<usize, String> {
     for (index, work) in works.iter().enumerate() {
         let mut proved = Proved::fresh(0);
         let mut second = Second::fresh(0);
-        let mut last = "the set-up".to_string();
+        let first = rows(slice::from_ref(work)).next();
+        let mut last = first.map_or(String::new(), |(_, row)| named_as("before ", row));
         for part in &work.parts {
             if let Some(row) = &part.row {
-                last = format!("\"{}: {}\", {} pages", row.group, row.name, row.pages);
+                last = named_as("", row);
             }
             let place = |step: usize| format!("workload {}, {last}, step {step}", index + 1);
             for (at, step) in part.steps.iter().enumerate() {
@@ -75,6 +77,13 @@ pub fn compare(works: &[Workload]) -> Result<usize, String> {
         }
     }
     Ok(calls)
+}
+
+fn named_as(before: &str, row: &Row) -> String {
+    let Row {
+        group, name, pages, ..
+    } = row;
+    format!("{before}\"{group}: {name}\", {pages} pages")
 }
 
 fn same_tables(proved: &Proved, second: &Second) -> Result<(), String> {
