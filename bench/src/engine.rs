@@ -19,8 +19,14 @@ pub struct Reply {
 }
 
 const LEDGER_WORDS: usize = 426;
-/// Where tables begin, in both engines, so that no count depends on the place.
+/// Where ledgers and tables begin, in both engines: what it takes to clear them
+/// depends on it.
 const ALIGNED: usize = 64;
+
+/// A ledger that begins on a line of the cache.
+#[repr(align(64))]
+#[derive(Clone)]
+struct Aligned<T>(T);
 
 /// The bytes of a table, which begin on a line of the cache.
 struct Table {
@@ -87,7 +93,7 @@ pub trait Engine: Clone {
 /// The proved ledger, through its C entry.
 #[derive(Clone)]
 pub struct Proved {
-    ledger: Box<[u32; LEDGER_WORDS]>,
+    ledger: Box<Aligned<[u32; LEDGER_WORDS]>>,
     table: Table,
 }
 
@@ -96,7 +102,7 @@ impl Engine for Proved {
 
     fn fresh(pages: usize) -> Self {
         Proved {
-            ledger: Box::new([0; LEDGER_WORDS]),
+            ledger: Box::new(Aligned([0; LEDGER_WORDS])),
             table: Table::zeros(pages),
         }
     }
@@ -109,7 +115,7 @@ impl Engine for Proved {
         // their lengths; they do not overlap.
         unsafe {
             roadbellow_call(
-                self.ledger.as_mut_ptr(),
+                self.ledger.0.as_mut_ptr(),
                 table.as_mut_ptr(),
                 table.len(),
                 call.number,
@@ -132,7 +138,7 @@ impl Engine for Proved {
 /// The second ledger.
 #[derive(Clone)]
 pub struct Second {
-    ledger: Box<Ledger>,
+    ledger: Box<Aligned<Ledger>>,
     table: Table,
 }
 
@@ -141,7 +147,7 @@ impl Engine for Second {
 
     fn fresh(pages: usize) -> Self {
         Second {
-            ledger: Box::new(Ledger::new()),
+            ledger: Box::new(Aligned(Ledger::new())),
             table: Table::zeros(pages),
         }
     }
@@ -149,7 +155,7 @@ impl Engine for Second {
     #[inline]
     fn call(&mut self, call: &Call) -> Reply {
         let table = self.table.lent();
-        let answer: Answer = self.ledger.call(table, call.number, call.hart, call.args);
+        let answer: Answer = self.ledger.0.call(table, call.number, call.hart, call.args);
         Reply {
             error: answer.error(),
             value: answer.value(),

@@ -135,13 +135,8 @@ fn time<E: Engine>(engine: &mut E, steps: &[Step]) -> Duration {
     spent
 }
 
-fn median(mut times: Vec<Duration>) -> Duration {
-    times.sort();
-    times[times.len() / 2]
-}
-
-/// For each row, the proved ledger's time over the second's: of each the median
-/// over rounds in which they take turns, from the same state.
+/// For each row, the proved ledger's time over the second's: the median
+/// over rounds in which one follows the other, from the same state.
 pub fn times(works: &[Workload], most: usize) -> Vec<Option<f64>> {
     let mut ratios = Vec::new();
     for work in works {
@@ -161,19 +156,21 @@ pub fn times(works: &[Workload], most: usize) -> Vec<Option<f64>> {
 fn ratio(proved: &Proved, second: &Second, steps: &[Step], most: usize) -> Option<f64> {
     let first = time(&mut second.clone(), steps).as_secs_f64();
     let rounds = ((0.1 / first) as usize).max(7).min(most);
-    let mut of_proved = Vec::new();
-    let mut of_second = Vec::new();
+    let mut ratios = Vec::new();
+    let mut least = Duration::MAX;
     for round in 0..rounds {
-        let mut one = proved.clone();
-        let mut other = second.clone();
-        if round % 2 == 0 {
-            of_proved.push(time(&mut one, steps));
-            of_second.push(time(&mut other, steps));
+        let mut proved = proved.clone();
+        let mut second = second.clone();
+        let (one, other) = if round % 2 == 0 {
+            let one = time(&mut proved, steps);
+            (one, time(&mut second, steps))
         } else {
-            of_second.push(time(&mut other, steps));
-            of_proved.push(time(&mut one, steps));
-        }
+            let other = time(&mut second, steps);
+            (time(&mut proved, steps), other)
+        };
+        ratios.push(one.as_secs_f64() / other.as_secs_f64());
+        least = least.min(other);
     }
-    let (one, other) = (median(of_proved), median(of_second));
-    (other >= SHORTEST).then(|| one.as_secs_f64() / other.as_secs_f64())
+    ratios.sort_by(f64::total_cmp);
+    (least >= SHORTEST).then(|| ratios[ratios.len() / 2])
 }
