@@ -8,15 +8,16 @@ use lib.Dec.{ltb, leb, eqb}
 use borrow.Author.Tests.{lt-ltb, ltb-true, ltb-false, le-leb, lt-leb}
 use Rattle.sets.specs.Terms.{within}
 use Rattle.sets.proofs.Bools.{by-test, iff, and-right}
-use Rattle.rules.specs.Calls.{memory}
-use Rattle.door.specs.Places.{sizeBy, misplacedBy, pastGuest}
+use Rattle.rules.specs.Calls.{memory, span}
+use Rattle.rules.specs.Refusals.{misplaced}
+use Rattle.door.specs.Places.{sizeBy, pastGuest}
 
 or-last : (a b : Bool) → (a || b || true) ≡ true
 or-last true b = refl
 or-last false true = refl
 or-last false false = refl
 
-pub past-memory : (base pages align total : ℕ) → 2147483648 + 4096 * total < base → misplacedBy base pages align total ≡ true
+pub past-memory : (base pages align total : ℕ) → 2147483648 + 4096 * total < base → misplaced total (span base pages align) ≡ true
 past-memory base pages align total h =
     let e : ltb (memory + 4096 * total) (base + 4096 * pages) ≡ true = lt-ltb (memory + 4096 * total) (base + 4096 * pages) (omega arith) in
     rw e (or-last (not (eqb (base % (4096 * align)) 0)) (ltb base memory))
@@ -25,13 +26,13 @@ or-next : (a b : Bool) → (a || true || b) ≡ true
 or-next true b = refl
 or-next false b = refl
 
-pub past-total : (base pages align total : ℕ) → total < pages → misplacedBy base pages align total ≡ true
+pub past-total : (base pages align total : ℕ) → total < pages → misplaced total (span base pages align) ≡ true
 past-total base pages align total h = by-test (ltb base memory) low high
   where
-    low : ltb base memory ≡ true → misplacedBy base pages align total ≡ true
+    low : ltb base memory ≡ true → misplaced total (span base pages align) ≡ true
     low e = rw e (or-next (not (eqb (base % (4096 * align)) 0)) (ltb (memory + 4096 * total) (base + 4096 * pages)))
 
-    high : ltb base memory ≡ false → misplacedBy base pages align total ≡ true
+    high : ltb base memory ≡ false → misplaced total (span base pages align) ≡ true
     high e =
         let f : ltb (memory + 4096 * total) (base + 4096 * pages) ≡ true = lt-ltb (memory + 4096 * total) (base + 4096 * pages) (omega (arith, ltb-false base memory e)) in
         rw f (or-last (not (eqb (base % (4096 * align)) 0)) (ltb base memory))

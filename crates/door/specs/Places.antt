@@ -1,6 +1,5 @@
 -- The parts of refusal 5 over plain numbers.
-use Rattle.sets.specs.Terms.{ℕ, _+_, _*_, _/_, _%_, _^_, _<_, _≡_, Bool, true, false, cond, not, _||_, ltb, eqb}
-use Rattle.rules.specs.Calls.{memory}
+use Rattle.sets.specs.Terms.{ℕ, _+_, _*_, _/_, _^_, _<_, _≡_, Bool, true, false, cond, ltb, eqb}
 
 abbrev pub sizeBy : Bool → Bool → ℕ → ℕ → ℕ → ℕ
 sizeBy measured counted long count kind = cond measured (long / 4096) (cond counted (count * cond (eqb kind 1) 512 1) 1)
@@ -8,9 +7,6 @@ sizeBy measured counted long count kind = cond measured (long / 4096) (cond coun
 -- pages that are counted have a number that fits
 abbrev pub Countable : Bool → Bool → ℕ → ℕ → Type 0
 Countable measured counted count kind = measured ≡ false → counted ≡ true → count * cond (eqb kind 1) 512 1 < 2 ^ 64
-
-abbrev pub misplacedBy : ℕ → ℕ → ℕ → ℕ → Bool
-misplacedBy base pages align total = not (eqb (base % (4096 * align)) 0) || ltb base memory || ltb (memory + 4096 * total) (base + 4096 * pages)
 
 abbrev pub pastGuest : ℕ → ℕ → Bool
 pastGuest base pages = ltb 4294967296 (base + 4096 * pages)

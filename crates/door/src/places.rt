@@ -4,11 +4,11 @@ ghost use mathlib.Core.Bool.{cond, not, _&&_, false};
 ghost use lib.Dec.{eqb, ltb};
 ghost use Prim.Native.Nat.{_<_};
 ghost use Rattle.sets.specs.Terms.{within};
-ghost use Rattle.rules.specs.Calls.{size};
+ghost use Rattle.rules.specs.Calls.{size, span};
 ghost use Rattle.rules.specs.Refusals as n;
 ghost use Rattle.rules.specs.Encoding.{view, pagesOf};
 ghost use Rattle.door.specs.Asked.{Asked};
-ghost use Rattle.door.specs.Places.{Countable, misplacedBy, pastGuest, sizeBy};
+ghost use Rattle.door.specs.Places.{Countable, pastGuest, sizeBy};
 use super::early::names;
 use super::roles::COUNT;
 use super::roles::DIRECTORY;
@@ -20,7 +20,8 @@ use super::roles::TYPE;
 use rules::Call;
 use words::sizes;
 
-const MEMORY: u64 = 0x80000000;
+// Where memory begins.
+pub const MEMORY: u64 = 0x80000000;
 
 // The pages of a unit.
 fn unit_of(kind: u64) -> u64
@@ -47,7 +48,7 @@ fn pages_of(measured: bool, counted: bool, length: u64, count: u64, kind: u64) -
 // the number of pages is past all memory, so that the sum cannot wrap.
 fn misplaced(base: u64, pages: u64, align: u64, total: u32) -> bool
     requires { ⌜ (0 < align) × (align < 513) ⌝ }
-    ensures { λ r. ⌜ r ≡ misplacedBy base pages align total ⌝ }
+    ensures { λ r. ⌜ r ≡ n.misplaced total (span base pages align) ⌝ }
 {
     let end = MEMORY + 4096 * (total as u64);
     if end < base {

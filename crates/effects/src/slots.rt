@@ -5,10 +5,11 @@ ghost use Prim.Native.Nat.{_+_, _<_, _≤_};
 ghost use Rattle.sets.specs.Terms.{put as store};
 ghost use Rattle.sets.specs.Look.{lowest};
 ghost use Rattle.rules.specs.Ledger.{withSlot, slot as slotWith, bare as bareWith};
+ghost use Rattle.rules.specs.Refusals as n;
+ghost use Rattle.rules.specs.Effects.{destroyed};
 ghost use Rattle.rules.specs.Encoding.{view};
 ghost use Rattle.fences.specs.Trackers.{tvmOf};
-ghost use Rattle.seats.specs.Room.{unusedAt};
-ghost use Rattle.effects.specs.Parts.{noRegion, endedFence};
+ghost use Rattle.effects.specs.Parts.{noRegion};
 use fences::TvmTracker;
 use fences::tvm_ended;
 use seats::room::unused;
@@ -47,7 +48,7 @@ pub fn create(l: &mut [u32; 426], k: u64)
 
 pub fn destroy(l: &mut [u32; 426], k: u64)
     requires { ⌜ k < 16 ⌝ }
-    ensures { λ _. ⌜ view (now (l .exit)) ≡ withSlot k (bareWith 0 (endedFence (view (now (l .entry)) .slot k .fence))) (view (now (l .entry))) ⌝ }
+    ensures { λ _. ⌜ view (now (l .exit)) ≡ withSlot k (destroyed (view (now (l .entry)) .slot k)) (view (now (l .entry))) ⌝ }
 {
     let t = parts::fence(&*l, k);
     bare(l, k, 0, tvm_ended(t));
@@ -55,8 +56,8 @@ pub fn destroy(l: &mut [u32; 426], k: u64)
 
 // The region takes the lowest place that has none.
 pub fn add_region(l: &mut [u32; 426], k: u64, first: u64, pages: u64)
-    requires { ⌜ (k < 16) × (first + pages ≤ 1048576) × (lowest (unusedAt (view (now l)) k) 8 < 8) ⌝ }
-    ensures { λ _. ⌜ view (now (l .exit)) ≡ withSlot k (slotWith (view (now (l .entry)) .slot k .phase) (view (now (l .entry)) .slot k .fence) (view (now (l .entry)) .slot k .made) (store (lowest (unusedAt (view (now (l .entry))) k) 8) (record { first = first; pages = pages }) (view (now (l .entry)) .slot k .region))) (view (now (l .entry))) ⌝ }
+    requires { ⌜ (k < 16) × (first + pages ≤ 1048576) × (lowest (n.unused (view (now l) .slot k)) 8 < 8) ⌝ }
+    ensures { λ _. ⌜ view (now (l .exit)) ≡ withSlot k (slotWith (view (now (l .entry)) .slot k .phase) (view (now (l .entry)) .slot k .fence) (view (now (l .entry)) .slot k .made) (store (lowest (n.unused (view (now (l .entry)) .slot k)) 8) (record { first = first; pages = pages }) (view (now (l .entry)) .slot k .region))) (view (now (l .entry))) ⌝ }
 {
     let i = unused(&*l, k);
     let r = Region {

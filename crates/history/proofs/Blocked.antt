@@ -38,7 +38,7 @@ module _ (p k r : ℕ) where
     with-fence : (x : ℕ) (y : Slot) → y .fence ≡ l .slot x .fence → Before → Inv r (put x y (l .slot) k .fence) (w .begun) (w .owing)
     with-fence x y e o = subst (λ f. Inv r f (w .begun) (w .owing)) (sym (put-field (λ (z : Slot). z .fence) x y (l .slot) e k)) (o .inv)
 
-    not-eight : (b : Bool) → eqb (page (cond b 3 4) (taken l t (call 5 c)) 0 0 .kind) 8 ≡ false
+    not-eight : (b : Bool) → eqb (page (cond b 3 4) (taken l) 0 0 .kind) 8 ≡ false
     not-eight true = refl
     not-eight false = refl
 
@@ -48,7 +48,7 @@ module _ (p k r : ℕ) where
     by8 = record { other = λ o e. refl; moves-on = λ o e. go o e (eqb k (c .a0)) refl }
       where
         go : Before → writes l t (call 8 c) p ≡ false → (b : Bool) → eqb k (c .a0) ≡ b
-            → Inv r (cond b (destroyed l t (call 8 c) (l .slot (c .a0))) (l .slot k) .fence) (w .begun) (w .owing)
+            → Inv r (cond b (destroyed (l .slot (c .a0))) (l .slot k) .fence) (w .begun) (w .owing)
         go o e true h = absurd (true≢false (sym (rw (o .kind-is, o .slot-is) h) ∙ e))
         go o e false h = o .inv
 
@@ -101,7 +101,7 @@ module _ (p k r : ℕ) where
     reclaim = λ q. record { other = λ o e. refl; moves-on = λ o e. o .inv };
     global-fence = λ q. record { other = λ o e. refl; moves-on = λ o e. o .inv };
     local-fence = λ q. record { other = λ o e. refl; moves-on = λ o e. o .inv };
-    create = λ q. record { other = λ o e. not-eight w l t c s (within (index (c .a0)) 4 p); moves-on = λ o e. with-fence w l t c s (taken l t (call 5 c)) _ refl o };
+    create = λ q. record { other = λ o e. not-eight w l t c s (within (index (c .a0)) 4 p); moves-on = λ o e. with-fence w l t c s (taken l) _ refl o };
     finalize = λ q. record { other = λ o e. refl; moves-on = λ o e. with-fence w l t c s (c .a0) _ refl o };
     destroy = λ q. by8 w l t c s;
     region = λ q. record { other = λ o e. refl; moves-on = λ o e. with-fence w l t c s (c .a0) _ refl o };

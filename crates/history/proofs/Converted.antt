@@ -40,7 +40,7 @@ module _ (p r : ℕ) where
           (λ j. rw (s .sits .harts-are)) (or-left (someone (l .global .awaited)) false (q .p8)) (o .inv);
     }
 
-    not-one : (b : Bool) → eqb (page (cond b 3 4) (taken l t (call 5 c)) 0 0 .kind) 1 ≡ false
+    not-one : (b : Bool) → eqb (page (cond b 3 4) (taken l) 0 0 .kind) 1 ≡ false
     not-one true = refl
     not-one false = refl
 

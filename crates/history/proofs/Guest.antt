@@ -305,7 +305,7 @@ module _ (X : GuestView) (l : Ledger) (t : Table) (c : Call) (s : I X l t) where
   by8 q j k g p e f = still j k g p e (λ b o. ok b (eqb k (c .a0)) refl o)
     where
       new : Slot
-      new = destroyed l t (call 8 c) (l .slot (c .a0))
+      new = destroyed (l .slot (c .a0))
 
       moved-on : eqb k (c .a0) ≡ true → l .slot k .fence .version < new .fence .version
       moved-on u =
@@ -335,7 +335,7 @@ lefts X l t c s = record {
   reclaim = λ q j k g p e f. free-left X l t c s (call 2 c) q j k g p e;
   global-fence = λ q j k g p e f. s .safe j k g p e;
   local-fence = λ q j k g p e f. s .safe j k g p e;
-  create = λ q j k g p e f. let z = free-left X l t c s (call 5 c) q j k g p e in (z .0, z .1, with-slot X l t c s (taken l t (call 5 c)) _ refl j k g _ (z .2));
+  create = λ q j k g p e f. let z = free-left X l t c s (call 5 c) q j k g p e in (z .0, z .1, with-slot X l t c s (taken l) _ refl j k g _ (z .2));
   finalize = λ q j k g p e f. still X l t c s j k g p e (λ b o. with-slot X l t c s (c .a0) _ refl j k g (t .page p) o);
   destroy = by8 X l t c s;
   region = λ q j k g p e f. still X l t c s j k g p e (λ b o. with-slot X l t c s (c .a0) _ refl j k g (t .page p) o);

@@ -90,13 +90,12 @@ module _ (l : Ledger) (t : Table) (c : Call) (s : MarksIn l) where
   alive e = s .lives (c .a0) (or-right (ltb 15 (c .a0)) (eqb (l .slot (c .a0) .phase) 0) e)
 
   -- create takes a slot whose version is below 65,534
-  takes-open : Passed l t (call 5 c) → l .slot (taken l t (call 5 c)) .fence .version ≤ 65534
+  takes-open : Passed l t (call 5 c) → l .slot (taken l) .fence .version ≤ 65534
   unfolding at-number taken
   takes-open q =
-      let d = call 5 c in
-      let low = lowest (takeable l t d) 16 in
-      let u : low < 16 = ltb-true low 16 (lowest-any (takeable l t d) 16 ∙ not-false (any (takeable l t d) 16) (or-left (not (any (takeable l t d) 16)) false (q .p9))) in
-      let w = ltb-true (l .slot low .fence .version) 65534 (and-right (eqb (l .slot low .phase) 0) (ltb (l .slot low .fence .version) 65534) (lowest-true (takeable l t d) 16 u)) in
+      let low = lowest (takeable l) 16 in
+      let u : low < 16 = ltb-true low 16 (lowest-any (takeable l) 16 ∙ not-false (any (takeable l) 16) (or-left (not (any (takeable l) 16)) false (q .p9))) in
+      let w = ltb-true (l .slot low .fence .version) 65534 (and-right (eqb (l .slot low .phase) 0) (ltb (l .slot low .fence .version) 65534) (lowest-true (takeable l) 16 u)) in
       omega arith
 
   by8 : Passed l t (call 8 c) → MarksIn (ledger l t (call 8 c))
@@ -104,7 +103,7 @@ module _ (l : Ledger) (t : Table) (c : Call) (s : MarksIn l) where
   by8 q = record { marks = λ j k m e. mk k m (eqb k (c .a0)) refl (s .marks j k m e); waits = λ j k. wt j k (eqb k (c .a0)) refl; lives = λ k. lv k (eqb k (c .a0)) refl }
     where
       new : Slot
-      new = destroyed l t (call 8 c) (l .slot (c .a0))
+      new = destroyed (l .slot (c .a0))
 
       moved-on : (k : ℕ) → eqb k (c .a0) ≡ true → l .slot k .fence .version + 1 ≡ new .fence .version
       moved-on k u =
@@ -223,7 +222,7 @@ module _ (l : Ledger) (t : Table) (c : Call) (s : MarksIn l) where
     reclaim = λ p. s;
     global-fence = λ p. s;
     local-fence = λ p. s;
-    create = λ p. with-slot (taken l t (call 5 c)) _ refl (takes-open p);
+    create = λ p. with-slot (taken l) _ refl (takes-open p);
     finalize = λ p. with-slot (c .a0) _ refl (alive (p .p2));
     destroy = by8;
     region = λ p. with-slot (c .a0) _ refl (alive (p .p2));

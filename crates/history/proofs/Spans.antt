@@ -1,14 +1,14 @@
 -- The pages that an accepted call names: those it takes as free count as free and are pages of the ledger, those it converts are the host's;
 -- and the records that 17 to 19 mean.
 -- Assumes nothing.
-use Prim.Native.Nat.{ℕ, _+_, _-_, _*_, _%_, _≤_, _<_}
+use Prim.Native.Nat.{ℕ, _+_, _-_, _≤_, _<_}
 use mathlib.Core.Path.{_≡_, refl, sym, _∙_, ap}
 use mathlib.Core.Logic.{_⊎_, inl, inr}
 use mathlib.Core.Bool.{Bool, true, false, cond, not, _&&_, _||_, true≢false, false≢true, or-true}
 use mathlib.Core.List.{List, [], _∷_, map}
 use native.Mathlib.Omega.{arith}
 use lib.Dec.{ltb, leb, eqb}
-use borrow.Author.Tests.{ltb-true, ltb-false, leb-true, lt-ltb, le-leb, eqb-true, not-false}
+use borrow.Author.Tests.{ltb-true, leb-true, lt-ltb, le-leb, eqb-true, not-false}
 use Rattle.sets.specs.Terms.{oneOf, oneFrom, anyIn, within, put}
 use Rattle.sets.specs.Look.{any, lowest}
 use Rattle.sets.proofs.Bools.{or-left, or-right, or-cases, or-false, or-assoc, and-left, and-right}
@@ -19,10 +19,11 @@ use Rattle.rules.specs.declared.Call.{Call}
 use Rattle.rules.specs.Page.{Table, isFree, guestPage, claims, meant, isMeant}
 use Rattle.rules.specs.Fence.{done}
 use Rattle.rules.specs.Ledger.{Ledger}
-use Rattle.rules.specs.Calls.{Span, memory, index, freeSpans, hostSpans, size, firstGuest}
+use Rattle.rules.specs.Calls.{Span, index, freeSpans, hostSpans, size, firstGuest}
 use Rattle.rules.specs.Refusals.{refuses5, refuses6, refuses7, misplaced, anyPage, anyGuest}
 use Rattle.history.specs.Demand3.{countsFree}
 use Rattle.rules.proofs.Accepted.{Passed}
+use Rattle.rules.proofs.Bounds.{placed}
 
 -- ---- one of a list
 one-from : (a : Bool) (bs : List Bool) → oneFrom a bs ≡ (a || oneOf bs)
@@ -88,21 +89,17 @@ abbrev pub isOf : List Span → ℕ → Bool
 isOf spans i = anyIn (λ s. within (index (s .base)) (s .pages) i) spans
 
 module _ (l : Ledger) (t : Table) (c : Call) where
-  placed : (s : Span) (i : ℕ) → misplaced l t c s ≡ false → within (index (s .base)) (s .pages) i ≡ true → i < l .pages
-  placed s i e w =
+  below : (s : Span) (i : ℕ) → misplaced (l .pages) s ≡ false → within (index (s .base)) (s .pages) i ≡ true → i < l .pages
+  below s i e w =
       let (j, u, v) = in-range (index (s .base)) (s .pages) i w in
-      let off = not (eqb (s .base % (4096 * s .align)) 0) in
-      let low = ltb (s .base) memory in
-      let past = ltb (memory + 4096 * l .pages) (s .base + 4096 * s .pages) in
-      let x : memory ≤ s .base = ltb-false (s .base) memory (or-right off low (or-left (off || low) past e)) in
-      let y : s .base + 4096 * s .pages ≤ memory + 4096 * l .pages = ltb-false (memory + 4096 * l .pages) (s .base + 4096 * s .pages) (or-right (off || low) past e) in
+      let x = placed (l .pages) s e .inside in
       omega arith
 
   pub free-below : Passed l t c → (i : ℕ) → isOf (freeSpans c) i ≡ true → i < l .pages
   unfolding refuses5
   free-below p i w =
-      let (s, x, y, z) = find-one (misplaced l t c) (misplaced l t c) (λ s. within (index (s .base)) (s .pages) i) (freeSpans c) (one-off _ (p .p5) 1) (one-off _ (p .p5) 1) w in
-      placed s i x z
+      let (s, x, y, z) = find-one (misplaced (l .pages)) (misplaced (l .pages)) (λ s. within (index (s .base)) (s .pages) i) (freeSpans c) (one-off _ (p .p5) 1) (one-off _ (p .p5) 1) w in
+      below s i x z
 
   pub neither-free : refuses6 l t c ≡ false → refuses7 l t c ≡ false → (i : ℕ) → isOf (freeSpans c) i ≡ true → countsFree (l .global) (t .page i) ≡ true
   unfolding refuses6 refuses7
@@ -119,8 +116,8 @@ module _ (l : Ledger) (t : Table) (c : Call) where
   pub host-below : Passed l t c → (i : ℕ) → isOf (hostSpans c) i ≡ true → i < l .pages
   unfolding refuses5
   host-below p i w =
-      let (s, x, y, z) = find-one (misplaced l t c) (misplaced l t c) (λ s. within (index (s .base)) (s .pages) i) (hostSpans c) (one-off _ (p .p5) 0) (one-off _ (p .p5) 0) w in
-      placed s i x z
+      let (s, x, y, z) = find-one (misplaced (l .pages)) (misplaced (l .pages)) (λ s. within (index (s .base)) (s .pages) i) (hostSpans c) (one-off _ (p .p5) 0) (one-off _ (p .p5) 0) w in
+      below s i x z
 
   pub host-ordinary : Passed l t c → (i : ℕ) → isOf (hostSpans c) i ≡ true → t .page i .kind ≡ 0
   unfolding refuses6

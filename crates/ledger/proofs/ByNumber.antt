@@ -18,13 +18,11 @@ use Rattle.rules.specs.Page.{Table, over, page, isGiven, isMeant}
 use Rattle.rules.specs.Fence.{begin, strike, number}
 use Rattle.rules.specs.Ledger.{Ledger, withGlobal, withSlot, withHart, withFence, slot, bare, opened, inside, outside, slotOf, placeNumber, othersOf, insidersOf, flushes}
 use Rattle.rules.specs.Calls.{entryOf, names, arg, moves, size, firstGuest, index, freeSpans}
-use Rattle.rules.specs.Refusals.{theSlot, taken}
-use Rattle.rules.specs.Effects.{writes, written, table, ledger, value, mapping}
+use Rattle.rules.specs.Refusals.{theSlot, taken, unused}
+use Rattle.rules.specs.Effects.{writes, written, table, ledger, value, mapping, destroyed}
 use Rattle.rules.proofs.CallTable.{each, with-it, among, named-at}
 use Rattle.rules.proofs.Spans.{free-spans}
 use Rattle.records.specs.Passes.{becomes}
-use Rattle.seats.specs.Room.{takeableAt, unusedAt}
-use Rattle.effects.specs.Parts.{endedFence}
 use Rattle.ledger.specs.Settled.{Kept}
 
 -- ---- the table
@@ -38,7 +36,7 @@ module _ (l : Ledger) (t : Table) (c : Call) where
   table-2 e = rw e
 
   pub table-5 : c .number ≡ 5 → table l t c
-      ≡ over t (λ i. within (index (arg DirectoryBase c)) 4 i || within (index (arg FreeBase c)) 1 i) (λ i. page (cond (within (index (arg DirectoryBase c)) 4 i) 3 4) (taken l t c) 0 0)
+      ≡ over t (λ i. within (index (arg DirectoryBase c)) 4 i || within (index (arg FreeBase c)) 1 i) (λ i. page (cond (within (index (arg DirectoryBase c)) 4 i) 3 4) (taken l) 0 0)
   unfolding table writes written freeSpans names entryOf oneOf oneFrom size
   table-5 e = rw e
 
@@ -140,19 +138,19 @@ module _ (l : Ledger) (c : Call) where
   unfolding value ledger
   call-4 e t = (rw e, rw e)
 
-  pub call-5 : c .number ≡ 5 → Is (lowest (takeableAt l) 16) (withSlot (lowest (takeableAt l) 16) (bare 1 (l .slot (lowest (takeableAt l) 16) .fence)) l)
-  unfolding value ledger taken
+  pub call-5 : c .number ≡ 5 → Is (taken l) (withSlot (taken l) (bare 1 (l .slot (taken l) .fence)) l)
+  unfolding value ledger
   call-5 e t = (rw e, rw e)
 
   pub call-6 : c .number ≡ 6 → Is 0 (withSlot (arg Tvm c) (slot 2 (l .slot (arg Tvm c) .fence) (l .slot (arg Tvm c) .made) (l .slot (arg Tvm c) .region)) l)
   unfolding value ledger
   call-6 e t = (rw e, rw e)
 
-  pub call-8 : c .number ≡ 8 → Is 0 (withSlot (arg Tvm c) (bare 0 (endedFence (l .slot (arg Tvm c) .fence))) l)
+  pub call-8 : c .number ≡ 8 → Is 0 (withSlot (arg Tvm c) (destroyed (l .slot (arg Tvm c))) l)
   unfolding value ledger
   call-8 e t = (rw e, rw e)
 
-  pub call-9 : c .number ≡ 9 → Is 0 (withSlot (arg Tvm c) (slot (l .slot (arg Tvm c) .phase) (l .slot (arg Tvm c) .fence) (l .slot (arg Tvm c) .made) (put (lowest (unusedAt l (arg Tvm c)) 8) (record { first = firstGuest c; pages = size c }) (l .slot (arg Tvm c) .region))) l)
+  pub call-9 : c .number ≡ 9 → Is 0 (withSlot (arg Tvm c) (slot (l .slot (arg Tvm c) .phase) (l .slot (arg Tvm c) .fence) (l .slot (arg Tvm c) .made) (put (lowest (unused (l .slot (arg Tvm c))) 8) (record { first = firstGuest c; pages = size c }) (l .slot (arg Tvm c) .region))) l)
   unfolding value ledger
   call-9 e t = (rw e, rw e)
 

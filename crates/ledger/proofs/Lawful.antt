@@ -15,10 +15,9 @@ use Rattle.rules.specs.Ledger.{Ledger, isOutside}
 use Rattle.rules.specs.declared.Call.{Call}
 use Rattle.rules.specs.declared.Role.the-variants.{Tvm, Vcpu, GuestBase, HartCount, PageCount}
 use Rattle.rules.specs.Calls.{opens, names, arg, size, firstGuest}
-use Rattle.rules.specs.Refusals.{refuses9, refuses13, refuses15}
+use Rattle.rules.specs.Refusals.{refuses9, refuses13, refuses15, takeable, taken, unused}
 use Rattle.rules.proofs.Accepted.{Early, Passed, passed, early-of, harts-lawful, pages-lawful}
 use Rattle.rules.proofs.Bounds.{in-within, slot-in, few-harts, hart-low, vcpu-in, guest-in}
-use Rattle.seats.specs.Room.{takeableAt, unusedAt}
 use Rattle.ledger.specs.Settled.{Lawful}
 
 module _ (l : Ledger) (c : Call) (p : Lawful l c) where
@@ -54,14 +53,14 @@ module _ (l : Ledger) (c : Call) (p : Lawful l c) where
   unfolding refuses13
   slot-version e = leb-false 65534 (l .slot (arg Tvm c) .fence .version) (sym (rw e) ∙ all .p13)
 
-  pub slot-free : c .number ≡ 5 → lowest (takeableAt l) 16 < 16
-  unfolding refuses9
+  pub slot-free : c .number ≡ 5 → taken l < 16
+  unfolding refuses9 taken
   slot-free e =
-      ltb-true (lowest (takeableAt l) 16) 16 (lowest-any (takeableAt l) 16 ∙ not-false (any (takeableAt l) 16) (or-left (not (any (takeableAt l) 16)) false (sym (rw e) ∙ all .p9)))
+      ltb-true (lowest (takeable l) 16) 16 (lowest-any (takeable l) 16 ∙ not-false (any (takeable l) 16) (or-left (not (any (takeable l) 16)) false (sym (rw e) ∙ all .p9)))
 
-  pub region-free : c .number ≡ 9 → lowest (unusedAt l (arg Tvm c)) 8 < 8
+  pub region-free : c .number ≡ 9 → lowest (unused (l .slot (arg Tvm c))) 8 < 8
   unfolding refuses9
-  region-free e = ltb-true (lowest (unusedAt l (arg Tvm c)) 8) 8 (lowest-any (unusedAt l (arg Tvm c)) 8 ∙ not-false (any (unusedAt l (arg Tvm c)) 8) (sym (rw e) ∙ all .p9))
+  region-free e = ltb-true (lowest (unused (l .slot (arg Tvm c))) 8) 8 (lowest-any (unused (l .slot (arg Tvm c))) 8 ∙ not-false (any (unused (l .slot (arg Tvm c))) 8) (sym (rw e) ∙ all .p9))
 
   pub is-inside : c .number ≡ 32 → isOutside (l .hart (c .hart) .place) ≡ false
   unfolding refuses15

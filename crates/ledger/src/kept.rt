@@ -1,12 +1,11 @@
 // What an accepted call makes of the ledger, and its value.
 ghost use mathlib.Core.Path.{_≡_};
 ghost use Prim.Native.Nat.{_<_};
-ghost use Rattle.sets.specs.Look.{lowest};
 ghost use Rattle.rules.specs.Ledger.{withSlot, bare};
 ghost use Rattle.rules.specs.Calls.{size};
+ghost use Rattle.rules.specs.Refusals as n;
 ghost use Rattle.rules.specs.Encoding.{view};
 ghost use Rattle.door.specs.Asked.{Asked};
-ghost use Rattle.seats.specs.Room.{takeableAt};
 ghost use Rattle.ledger.specs.Settled.{Lawful, Kept, InSlots};
 use door::roles::GUEST;
 use door::roles::HARTS;
@@ -23,8 +22,8 @@ use words::sizes;
 
 // The value is the slot.
 fn create(l: &mut [u32; 426]) -> u64
-    requires { ⌜ lowest (takeableAt (view (now l))) 16 < 16 ⌝ }
-    ensures { λ r. ⌜ (r ≡ lowest (takeableAt (view (now (l .entry)))) 16) × (view (now (l .exit)) ≡ withSlot (lowest (takeableAt (view (now (l .entry)))) 16) (bare 1 (view (now (l .entry)) .slot (lowest (takeableAt (view (now (l .entry)))) 16) .fence)) (view (now (l .entry)))) ⌝ }
+    requires { ⌜ n.taken (view (now l)) < 16 ⌝ }
+    ensures { λ r. ⌜ (r ≡ n.taken (view (now (l .entry)))) × (view (now (l .exit)) ≡ withSlot (n.taken (view (now (l .entry)))) (bare 1 (view (now (l .entry)) .slot (n.taken (view (now (l .entry)))) .fence)) (view (now (l .entry)))) ⌝ }
 {
     let k = taken(&*l);
     slots::create(l, k);

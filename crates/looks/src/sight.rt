@@ -10,6 +10,7 @@ ghost use Rattle.fences.specs.Trackers.{globalOf};
 ghost use Rattle.door.specs.Ready.{Ready};
 ghost use Rattle.looks.specs.Sights.{Seen, isUnwanted, isUnfinished, isUnready, isUndone, hasCut, InTable, lookAt, guestsAt};
 use door::early::names;
+use door::places::MEMORY;
 use door::roles::DIRECTORY;
 use door::roles::FREE;
 use door::roles::GUEST;
@@ -23,8 +24,6 @@ use records::range::Found;
 use rules::Call;
 use words::parts;
 use words::sizes;
-
-const MEMORY: u64 = 0x80000000;
 
 // Whether each of the three holds; of 7 and 14 only where 6 does not.
 pub struct Sight {

@@ -33,16 +33,16 @@ pub record Placed (base pages total : ℕ) : Type 0 where
   pub above : memory ≤ base
   pub inside : index base + pages ≤ total
 
-module _ (l : Ledger) (t : Table) (c : Call) where
-  pub placed : (s : Span) → misplaced l t c s ≡ false → Placed (s .base) (s .pages) (l .pages)
-  placed s e =
-      let off = not (eqb (s .base % (4096 * s .align)) 0) in
-      let low = ltb (s .base) memory in
-      let past = ltb (memory + 4096 * l .pages) (s .base + 4096 * s .pages) in
-      let x : memory ≤ s .base = ltb-false (s .base) memory (or-right off low (or-left (off || low) past e)) in
-      let y : s .base + 4096 * s .pages ≤ memory + 4096 * l .pages = ltb-false (memory + 4096 * l .pages) (s .base + 4096 * s .pages) (or-right (off || low) past e) in
-      record { above = x; inside = omega arith }
+pub placed : (total : ℕ) (s : Span) → misplaced total s ≡ false → Placed (s .base) (s .pages) total
+placed total s e =
+    let off = not (eqb (s .base % (4096 * s .align)) 0) in
+    let low = ltb (s .base) memory in
+    let past = ltb (memory + 4096 * total) (s .base + 4096 * s .pages) in
+    let x : memory ≤ s .base = ltb-false (s .base) memory (or-right off low (or-left (off || low) past e)) in
+    let y : s .base + 4096 * s .pages ≤ memory + 4096 * total = ltb-false (memory + 4096 * total) (s .base + 4096 * s .pages) (or-right (off || low) past e) in
+    record { above = x; inside = omega arith }
 
+module _ (l : Ledger) (t : Table) (c : Call) where
   module _ (p : Early l t c) where
     pub slot-in : names Tvm c ≡ true → arg Tvm c < 16
     unfolding refuses2
@@ -85,15 +85,15 @@ module _ (l : Ledger) (t : Table) (c : Call) where
 
     pub host-in : names HostBase c ≡ true → Placed (arg HostBase c) (size c) (l .pages)
     unfolding refuses5
-    host-in n = placed (span (arg HostBase c) (size c) 1) (and-off _ _ (sym (host-spans (misplaced l t c) c) ∙ one-off _ (p .e5) 0) n)
+    host-in n = placed (l .pages) (span (arg HostBase c) (size c) 1) (and-off _ _ (sym (host-spans (misplaced (l .pages)) c) ∙ one-off _ (p .e5) 0) n)
 
     pub directory-in : names DirectoryBase c ≡ true → Placed (arg DirectoryBase c) 4 (l .pages)
     unfolding refuses5
-    directory-in n = placed (span (arg DirectoryBase c) 4 4) (and-off _ _ (or-left _ _ (sym (free-spans (misplaced l t c) c) ∙ one-off _ (p .e5) 1)) n)
+    directory-in n = placed (l .pages) (span (arg DirectoryBase c) 4 4) (and-off _ _ (or-left _ _ (sym (free-spans (misplaced (l .pages)) c) ∙ one-off _ (p .e5) 1)) n)
 
     pub free-in : names FreeBase c ≡ true → Placed (arg FreeBase c) (size c) (l .pages)
     unfolding refuses5
-    free-in n = placed (span (arg FreeBase c) (size c) (unit c)) (and-off _ _ (or-right (names DirectoryBase c && misplaced l t c (span (arg DirectoryBase c) 4 4)) _ (sym (free-spans (misplaced l t c) c) ∙ one-off _ (p .e5) 1)) n)
+    free-in n = placed (l .pages) (span (arg FreeBase c) (size c) (unit c)) (and-off _ _ (or-right (names DirectoryBase c && misplaced (l .pages) (span (arg DirectoryBase c) 4 4)) _ (sym (free-spans (misplaced (l .pages)) c) ∙ one-off _ (p .e5) 1)) n)
 
     pub guest-in : names GuestBase c ≡ true → firstGuest c + size c ≤ 1048576
     unfolding refuses5

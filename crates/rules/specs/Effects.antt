@@ -8,6 +8,10 @@ use Rattle.rules.specs.Ledger.{Ledger, Slot, Hart, inside, outside, bare
 use Rattle.rules.specs.Calls.{Call, Tvm, Vcpu, HostBase, FreeBase, DirectoryBase, UnitType, HartCount, PageCount, arg, moves, size, firstGuest, index, freeSpans}
 use Rattle.rules.specs.Refusals.{theSlot, taken, unused}
 
+-- "destroy adds 1 (65,535 stays)"
+abbrev pub destroyed : Slot → Slot
+destroyed s = bare 0 (record { version = min 65535 (s .fence .version + 1); awaited = s .fence .awaited })
+
 module _ (l : Ledger) (t : Table) (c : Call) where
   -- record i is written: 17 to 19, those meant; 8, the slot's; 33, all; else the pages named, of 11 the dest
   unfoldable pub writes : ℕ → Bool
@@ -23,7 +27,7 @@ module _ (l : Ledger) (t : Table) (c : Call) where
   unfoldable pub written : ℕ → Page
   written i =
       row (c .number) 1 (page 1 0 (l .global .version) 0)
-      (row (c .number) 5 (page (cond (within (index (arg DirectoryBase c)) 4 i) 3 4) (taken l t c) 0 0)
+      (row (c .number) 5 (page (cond (within (index (arg DirectoryBase c)) 4 i) 3 4) (taken l) 0 0)
       (row (c .number) 8 (page 2 0 0 0)
       (row (c .number) 10 (page 6 (arg Tvm c) 0 0)
       (row (c .number) 11 (mapping i)
@@ -36,15 +40,11 @@ module _ (l : Ledger) (t : Table) (c : Call) where
   unfoldable pub table : Table
   table = over t writes written
 
-  -- "destroy adds 1 (65,535 stays)"
-  abbrev pub destroyed : Slot → Slot
-  destroyed s = bare 0 (record { version = min 65535 (s .fence .version + 1); awaited = s .fence .awaited })
-
   abbrev pub peopled : Slot → Slot
   peopled s = slot (s .phase) (s .fence) (put (arg Vcpu c) true (s .made)) (s .region)
 
   abbrev pub added : Slot → Slot
-  added s = slot (s .phase) (s .fence) (s .made) (put (lowest (unused l t c) 8) (record { first = firstGuest c; pages = size c }) (s .region))
+  added s = slot (s .phase) (s .fence) (s .made) (put (lowest (unused s) 8) (record { first = firstGuest c; pages = size c }) (s .region))
 
   -- entering sets the mark; leaving strikes the hart out of the slot where it is
   abbrev pub entered : Hart → Hart
@@ -57,7 +57,7 @@ module _ (l : Ledger) (t : Table) (c : Call) where
   ledger =
       row (c .number) 3 (withGlobal (begin (othersOf l (c .hart)) (l .global)) l)
       (row (c .number) 4 (withGlobal (strike (c .hart) (l .global)) l)
-      (row (c .number) 5 (withSlot (taken l t c) (bare 1 (l .slot (taken l t c) .fence)) l)
+      (row (c .number) 5 (withSlot (taken l) (bare 1 (l .slot (taken l) .fence)) l)
       (row (c .number) 6 (withSlot (arg Tvm c) (slot 2 (theSlot l t c .fence) (theSlot l t c .made) (theSlot l t c .region)) l)
       (row (c .number) 8 (withSlot (arg Tvm c) (destroyed (theSlot l t c)) l)
       (row (c .number) 9 (withSlot (arg Tvm c) (added (theSlot l t c)) l)
@@ -72,7 +72,7 @@ module _ (l : Ledger) (t : Table) (c : Call) where
   value =
       row (c .number) 3 (number (othersOf l (c .hart)))
       (row (c .number) 4 (number (strike (c .hart) (l .global) .awaited))
-      (row (c .number) 5 (taken l t c)
+      (row (c .number) 5 (taken l)
       (row (c .number) 15 (cond (flushes (l .hart (c .hart) .mark (arg Tvm c)) (theSlot l t c .fence .version)) 1 0)
       (row (c .number) 16 (number (insidersOf l (arg Tvm c)))
       (row (c .number) 32 (placeNumber (l .hart (c .hart) .place)) 0)))))

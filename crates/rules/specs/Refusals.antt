@@ -6,6 +6,29 @@ use Rattle.rules.specs.Fence.{done, someone}
 use Rattle.rules.specs.Ledger.{Ledger, Slot, Region, isOpen, isOutside, isAt, insidersOf}
 use Rattle.rules.specs.Calls.{Call, Span, Tvm, Vcpu, DirectoryBase, FreeBase, UnitCount, UnitType, GuestBase, ByteLength, HartCount, PageCount, entryOf, allows, names, arg, unnamed, opens, moves, unit, size, firstGuest, memory, index, hostSpans, freeSpans}
 
+-- ---- what the conditions speak of
+-- a span of pages in a memory of `total` pages: "not on 4 KiB" (or its own boundary), "starts below memory or ends past it"
+abbrev pub misplaced : ℕ → Span → Bool
+misplaced total s = not (eqb (s .base % (4096 * s .align)) 0) || ltb (s .base) memory || ltb (memory + 4096 * total) (s .base + 4096 * s .pages)
+
+-- "Create takes the lowest empty slot whose version is below 65,534."
+abbrev pub takeable : Ledger → ℕ → Bool
+takeable l k = eqb (l .slot k .phase) 0 && ltb (l .slot k .fence .version) 65534
+
+unfoldable pub taken : Ledger → ℕ
+taken l = lowest (takeable l) 16
+
+-- place i of a slot's regions is free
+abbrev pub unused : Slot → ℕ → Bool
+unused s i = eqb (s .region i .pages) 0
+
+-- a guest range and a region: they overlap; the range is inside
+abbrev pub overlaps : ℕ → ℕ → Region → Bool
+overlaps first pages r = ltb (max first (r .first)) (min (first + pages) (r .first + r .pages))
+
+abbrev pub holds : ℕ → ℕ → Region → Bool
+holds first pages r = leb (r .first) first && leb (first + pages) (r .first + r .pages)
+
 module _ (l : Ledger) (t : Table) (c : Call) where
   -- the slot that the call names
   abbrev pub theSlot : Slot
@@ -50,14 +73,11 @@ module _ (l : Ledger) (t : Table) (c : Call) where
 
   -- 5: "address not on 4 KiB (directory: 16 KiB; type 1: dest, base and guest 2 MiB), or page range starts below memory or ends past it, or
   -- guest range ends past 2^32, all reckoned without wrapping; state page inside the directory"
-  abbrev pub misplaced : Span → Bool
-  misplaced s = not (eqb (s .base % (4096 * s .align)) 0) || ltb (s .base) memory || ltb (memory + 4096 * l .pages) (s .base + 4096 * s .pages)
-
   unfoldable pub refuses5 : Bool
   refuses5 =
       oneOf
-      (anyIn misplaced (hostSpans c)
-      ∷ anyIn misplaced (freeSpans c)
+      (anyIn (misplaced (l .pages)) (hostSpans c)
+      ∷ anyIn (misplaced (l .pages)) (freeSpans c)
       ∷ (names GuestBase c && not (eqb (arg GuestBase c % (4096 * unit c)) 0))
       ∷ (names GuestBase c && ltb 4294967296 (arg GuestBase c + 4096 * size c))
       ∷ (names DirectoryBase c && within (arg DirectoryBase c) 16384 (arg FreeBase c))
@@ -97,28 +117,15 @@ module _ (l : Ledger) (t : Table) (c : Call) where
   unfoldable pub refuses8 : Bool
   refuses8 = eqb (c .number) 3 && someone (l .global .awaited) || eqb (c .number) 16 && someone (theSlot .fence .awaited)
 
-  -- 9: "no slot for create; a ninth region". "Create takes the lowest empty slot whose version is below 65,534."
-  abbrev pub takeable : ℕ → Bool
-  takeable k = eqb (l .slot k .phase) 0 && ltb (l .slot k .fence .version) 65534
-
-  unfoldable pub taken : ℕ
-  taken = lowest takeable 16
-
-  abbrev pub unused : ℕ → Bool
-  unused i = eqb (theSlot .region i .pages) 0
-
+  -- 9: "no slot for create; a ninth region"
   unfoldable pub refuses9 : Bool
-  refuses9 = eqb (c .number) 5 && not (any takeable 16) || eqb (c .number) 9 && not (any unused 8)
+  refuses9 = eqb (c .number) 5 && not (any (takeable l) 16) || eqb (c .number) 9 && not (any (unused theSlot) 8)
 
   -- 10: "region overlaps one of the TVM's own; 11, 12: guest range not inside one region". 11 and 12 are the calls that name a type.
-  abbrev pub overlaps : Region → Bool
-  overlaps r = ltb (max (firstGuest c) (r .first)) (min (firstGuest c + size c) (r .first + r .pages))
-
-  abbrev pub holds : Region → Bool
-  holds r = leb (r .first) (firstGuest c) && leb (firstGuest c + size c) (r .first + r .pages)
-
   unfoldable pub refuses10 : Bool
-  refuses10 = eqb (c .number) 9 && any (λ i. overlaps (theSlot .region i)) 8 || names UnitType c && not (any (λ i. holds (theSlot .region i)) 8)
+  refuses10 =
+      eqb (c .number) 9 && any (λ i. overlaps (firstGuest c) (size c) (theSlot .region i)) 8
+      || names UnitType c && not (any (λ i. holds (firstGuest c) (size c) (theSlot .region i)) 8)
 
   -- 11: "11, 12: a guest page already mapped, blocked or not"
   unfoldable pub refuses11 : Bool

@@ -6,7 +6,7 @@ ghost use Rattle.rules.specs.Refusals as n;
 ghost use Rattle.rules.specs.Encoding.{view, pagesOf};
 ghost use Rattle.words.specs.Parts.{regionOf};
 ghost use Rattle.door.specs.Ready.{Ready};
-ghost use Rattle.seats.specs.Regions.{overlapsBy, holdsBy, meets};
+ghost use Rattle.seats.specs.Regions.{meets};
 use door::early::names;
 use door::roles::GUEST;
 use door::roles::TVM;
@@ -18,7 +18,7 @@ use words::parts::Region;
 // They have a page in common, and so neither is without pages.
 fn overlaps(r: Region, first: u64, pages: u64) -> bool
     requires { ⌜ first + pages ≤ 1048576 ⌝ }
-    ensures { λ x. ⌜ x ≡ overlapsBy first pages (regionOf r) ⌝ }
+    ensures { λ x. ⌜ x ≡ n.overlaps first pages (regionOf r) ⌝ }
 {
     let from = r.first as u64;
     let to = from + r.pages as u64;
@@ -28,7 +28,7 @@ fn overlaps(r: Region, first: u64, pages: u64) -> bool
 
 fn holds(r: Region, first: u64, pages: u64) -> bool
     requires { ⌜ first + pages ≤ 1048576 ⌝ }
-    ensures { λ x. ⌜ x ≡ holdsBy first pages (regionOf r) ⌝ }
+    ensures { λ x. ⌜ x ≡ n.holds first pages (regionOf r) ⌝ }
 {
     let from = r.first as u64;
     let to = from + r.pages as u64;

@@ -4,13 +4,12 @@ ghost use Rattle.sets.specs.Look.{lowest};
 ghost use Rattle.rules.specs.Refusals as n;
 ghost use Rattle.rules.specs.Encoding.{view, pagesOf};
 ghost use Rattle.door.specs.Asked.{Asked};
-ghost use Rattle.seats.specs.Room.{takeableAt, unusedAt};
 use door::roles::TVM;
 use rules::Call;
 use words::parts;
 
 fn is_takeable(l: &[u32; 426], k: u64) -> bool
-    ensures { λ r. ⌜ r ≡ takeableAt (view (now (l .entry))) k ⌝ }
+    ensures { λ r. ⌜ r ≡ n.takeable (view (now (l .entry))) k ⌝ }
 {
     let phase = parts::phase(l, k);
     let f = parts::fence(l, k);
@@ -19,7 +18,7 @@ fn is_takeable(l: &[u32; 426], k: u64) -> bool
 
 // The lowest slot that create may take, 16 where there is none.
 pub fn taken(l: &[u32; 426]) -> u64
-    ensures { λ r. ⌜ r ≡ lowest (takeableAt (view (now (l .entry)))) 16 ⌝ }
+    ensures { λ r. ⌜ r ≡ n.taken (view (now (l .entry))) ⌝ }
 {
     let mut k = 0;
     while k < 16 {
@@ -32,7 +31,7 @@ pub fn taken(l: &[u32; 426]) -> u64
 }
 
 fn is_unused(l: &[u32; 426], k: u64, i: u64) -> bool
-    ensures { λ r. ⌜ r ≡ unusedAt (view (now (l .entry))) k i ⌝ }
+    ensures { λ r. ⌜ r ≡ n.unused (view (now (l .entry)) .slot k) i ⌝ }
 {
     let r = parts::region_at(l, k, i);
     r.pages == 0
@@ -40,7 +39,7 @@ fn is_unused(l: &[u32; 426], k: u64, i: u64) -> bool
 
 // The lowest place of the slot that has no region, 8 where there is none.
 pub fn unused(l: &[u32; 426], k: u64) -> u64
-    ensures { λ r. ⌜ r ≡ lowest (unusedAt (view (now (l .entry))) k) 8 ⌝ }
+    ensures { λ r. ⌜ r ≡ lowest (n.unused (view (now (l .entry)) .slot k)) 8 ⌝ }
 {
     let mut i = 0;
     while i < 8 {

@@ -5,10 +5,11 @@ use lib.Dec.{eqb}
 use borrow.Author.Needs.{needs}
 use Rattle.sets.specs.Terms.{oneOf, oneFrom, within}
 use Rattle.rules.specs.declared.Role.the-variants.{HostBase, FreeBase, DirectoryBase, UnitType, GuestBase}
+use Rattle.rules.specs.Calls.{span}
 use Rattle.rules.specs.Refusals.{refuses5, misplaced}
-use Rattle.rules.specs.Encoding.{view, pagesOf}
+use Rattle.rules.specs.Encoding.{view}
 use Rattle.rules.proofs.Spans.{host-spans, free-spans}
-use Rattle.door.specs.Places.{misplacedBy, pastGuest}
+use Rattle.door.specs.Places.{pastGuest}
 use Rattle.door.proofs.places.refuses5.Statement.{statement}
 use Rattle.door.proofs.places.refuses5.Tie as tie
 
@@ -87,10 +88,10 @@ returns c =
     let size = s .pre .1 in
     let total = n1 .before .pages .ensures in
     let unit = n1 .before .before .unit-of .ensures .0 ∙ ap (λ (k : ℕ). cond (eqb k 1) 512 1) (a .value UnitType) in
-    let m = misplaced (view (s .args .l .now)) (pagesOf (s .args .t .now)) q in
-    let host = n4 .before .before .before .before .before .misplaced .ensures ∙ (λ i. misplacedBy (a .value HostBase i) (size i) 1 (total i)) in
-    let dir = n4 .before .before .before .misplaced2 .ensures ∙ (λ i. misplacedBy (a .value DirectoryBase i) 4 4 (total i)) in
-    let free = n4 .before .misplaced3 .ensures ∙ (λ i. misplacedBy (a .value FreeBase i) (size i) (unit i) (total i)) in
+    let m = misplaced (view (s .args .l .now) .pages) in
+    let host = n4 .before .before .before .before .before .misplaced .ensures ∙ (λ i. misplaced (total i) (span (a .value HostBase i) (size i) 1)) in
+    let dir = n4 .before .before .before .misplaced2 .ensures ∙ (λ i. misplaced (total i) (span (a .value DirectoryBase i) 4 4)) in
+    let free = n4 .before .misplaced3 .ensures ∙ (λ i. misplaced (total i) (span (a .value FreeBase i) (size i) (unit i))) in
     let past = c .before .before .past-guest .ensures ∙ (λ i. pastGuest (a .value GuestBase i) (size i)) in
     let inside = c .in-directory .ensures ∙ (λ i. within (a .value DirectoryBase i) 16384 (a .value FreeBase i)) in
     let hosts = (λ i. (n1 .names .ensures ∙ a .named HostBase) i && host i) ∙ sym (host-spans m q) in

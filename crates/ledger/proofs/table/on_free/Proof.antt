@@ -7,12 +7,11 @@ use borrow.Author.Needs.{needs}
 use Rattle.sets.specs.Terms.{within, oneOf, oneFrom}
 use Rattle.sets.proofs.Looks.{lowest-le}
 use Rattle.rules.specs.Page.{over, page, guestWord}
-use Rattle.rules.specs.Refusals.{taken}
+use Rattle.rules.specs.Refusals.{takeable, taken}
 use Rattle.rules.specs.declared.Role.the-variants.{Tvm, FreeBase, DirectoryBase, UnitType, GuestBase}
 use Rattle.rules.specs.Calls.{entryOf, names, size, index}
 use Rattle.rules.specs.Encoding.{view, pagesOf}
 use Rattle.rules.proofs.CallTable.{named-at}
-use Rattle.seats.specs.Room.{takeableAt}
 use Rattle.door.proofs.Ready.{free-fits, directory-fits, tvm-fits, pages-fit, guest-fits, typed-tvm, typed-guest, typed-not-9}
 use Rattle.ledger.proofs.ByNumber.{table-2, table-5, table-10, table-14, table-typed, typed-free}
 use Rattle.ledger.proofs.table.on_free.Statement.{statement}
@@ -38,7 +37,8 @@ taken-requires : tie.Need-taken-requires
 taken-requires c κs = search needs
 
 cast-found : tie.Need-cast-found
-cast-found c = let h = lowest-le (takeableAt (view (c .before .before .before .before .before .before .before .args .l .now))) 16 in let e = c .taken .ensures in search needs
+unfolding taken
+cast-found c = let h = lowest-le (takeable (view (c .before .before .before .before .before .before .before .args .l .now))) 16 in let e = c .taken .ensures in search needs
 
 found-requires : tie.Need-found-requires
 unfolding names entryOf oneOf oneFrom size

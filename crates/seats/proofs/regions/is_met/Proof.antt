@@ -1,6 +1,6 @@
 use mathlib.Core.Path.{_∙_}
 use borrow.Author.Needs.{needs}
-use Rattle.seats.specs.Regions.{holdsBy, overlapsBy}
+use Rattle.rules.specs.Refusals.{holds, overlaps}
 use Rattle.seats.proofs.regions.is_met.Statement.{statement}
 use Rattle.seats.proofs.regions.is_met.Tie as tie
 
@@ -11,13 +11,13 @@ holds-requires : tie.Need-holds-requires
 holds-requires c κs = search needs
 
 returns : tie.Need-returns
-returns c = let a = c .before .before .before .args in c .holds .ensures ∙ (λ i. holdsBy (a .first) (a .pages) (c .before .before .region-at .ensures i)) ∙ rw (c .before .if1 .taken)
+returns c = let a = c .before .before .before .args in c .holds .ensures ∙ (λ i. holds (a .first) (a .pages) (c .before .before .region-at .ensures i)) ∙ rw (c .before .if1 .taken)
 
 overlaps-requires : tie.Need-overlaps-requires
 overlaps-requires c κs = search needs
 
 returns-2 : tie.Need-returns-2
-returns-2 c = let a = c .before .before .before .args in c .overlaps .ensures ∙ (λ i. overlapsBy (a .first) (a .pages) (c .before .before .region-at .ensures i)) ∙ rw (c .before .if1 .left)
+returns-2 c = let a = c .before .before .before .args in c .overlaps .ensures ∙ (λ i. overlaps (a .first) (a .pages) (c .before .before .region-at .ensures i)) ∙ rw (c .before .if1 .left)
 
 pub is-met-spec : {M : Type 1} → statement M
 is-met-spec =

@@ -7,9 +7,8 @@ use Rattle.sets.specs.Look.{any}
 use Rattle.sets.proofs.Bools.{or-false}
 use Rattle.rules.specs.declared.Role.the-variants.{Tvm, UnitType, GuestBase}
 use Rattle.rules.specs.Calls.{arg, size, firstGuest}
-use Rattle.rules.specs.Refusals.{refuses10}
+use Rattle.rules.specs.Refusals.{refuses10, holds, overlaps}
 use Rattle.rules.specs.Encoding.{view, pagesOf}
-use Rattle.seats.specs.Regions.{holdsBy, overlapsBy}
 use Rattle.door.proofs.Ready.{guest-fits, region-guest, region-untyped, typed-guest}
 use Rattle.seats.proofs.regions.refuses10.Statement.{statement}
 use Rattle.seats.proofs.regions.refuses10.Tie as tie
@@ -33,8 +32,8 @@ returns c =
     let t = pagesOf (s .args .t .now) in
     let e : q .number ≡ 9 = c .before .if1 .taken in
     c .meets-any .ensures
-    ∙ (λ i. any (λ j. overlapsBy (a .value GuestBase i / 4096) (s .pre .sized i) (l .slot (a .value Tvm i) .region j)) 8)
-    ∙ rw (eq-eqb (q .number) 9 e, region-untyped q e) (sym (or-false (any (λ j. overlapsBy (firstGuest q) (size q) (l .slot (arg Tvm q) .region j)) 8)))
+    ∙ (λ i. any (λ j. overlaps (a .value GuestBase i / 4096) (s .pre .sized i) (l .slot (a .value Tvm i) .region j)) 8)
+    ∙ rw (eq-eqb (q .number) 9 e, region-untyped q e) (sym (or-false (any (λ j. overlaps (firstGuest q) (size q) (l .slot (arg Tvm q) .region j)) 8)))
 
 names-requires : tie.Need-names-requires
 names-requires c κs = search needs
@@ -49,7 +48,7 @@ returns-2 c =
     let a = s .pre .asked in
     let q = s .args .q in
     let l = view (s .args .l .now) in
-    ap not (c .meets-any2 .ensures ∙ (λ i. any (λ j. holdsBy (a .value GuestBase i / 4096) (s .pre .sized i) (l .slot (a .value Tvm i) .region j)) 8))
+    ap not (c .meets-any2 .ensures ∙ (λ i. any (λ j. holds (a .value GuestBase i / 4096) (s .pre .sized i) (l .slot (a .value Tvm i) .region j)) 8))
     ∙ rw (ne-eqb (q .number) 9 (c .before .before .before .if1 .left), sym (c .before .before .names .ensures ∙ a .named UnitType) ∙ c .before .if2 .taken)
 
 returns-3 : tie.Need-returns-3

@@ -6,9 +6,8 @@ use Rattle.sets.specs.Look.{any, lowest}
 use Rattle.sets.proofs.Looks.{lowest-any}
 use Rattle.rules.specs.declared.Role.the-variants.{Tvm}
 use Rattle.rules.specs.Calls.{arg}
-use Rattle.rules.specs.Refusals.{refuses9}
+use Rattle.rules.specs.Refusals.{refuses9, takeable, taken, unused}
 use Rattle.rules.specs.Encoding.{view}
-use Rattle.seats.specs.Room.{takeableAt, unusedAt}
 use Rattle.seats.proofs.Seats.{at-5, at-9, at-neither}
 use borrow.Author.Needs.{needs}
 use Rattle.seats.proofs.room.refuses9.Statement.{statement}
@@ -24,10 +23,10 @@ unused-requires : tie.Need-unused-requires
 unused-requires c κs = search needs
 
 returns : tie.Need-returns
-unfolding refuses9
+unfolding refuses9 taken
 returns c =
     let l = view (c .before .before .before .args .l .now) in
-    ap (λ (x : ℕ). not (ltb x 16)) (c .taken .ensures) ∙ ap not (lowest-any (takeableAt l) 16) ∙ at-5 (c .before .before .before .args .q .number) (not (any (takeableAt l) 16)) _ (c .before .match .keys1)
+    ap (λ (x : ℕ). not (ltb x 16)) (c .taken .ensures) ∙ ap not (lowest-any (takeable l) 16) ∙ at-5 (c .before .before .before .args .q .number) (not (any (takeable l) 16)) _ (c .before .match .keys1)
 
 returns-2 : tie.Need-returns-2
 unfolding refuses9
@@ -35,8 +34,8 @@ returns-2 c =
     let s = c .before .before .before .before in
     let l = view (s .args .l .now) in
     let k = arg Tvm (s .args .q) in
-    ap (λ (x : ℕ). not (ltb x 8)) (c .unused .ensures ∙ ap (λ (x : ℕ). lowest (unusedAt l x) 8) (s .pre .value Tvm)) ∙ ap not (lowest-any (unusedAt l k) 8)
-    ∙ at-9 (s .args .q .number) _ (not (any (unusedAt l k) 8)) (c .before .before .match .keys2)
+    ap (λ (x : ℕ). not (ltb x 8)) (c .unused .ensures ∙ ap (λ (x : ℕ). lowest (unused (l .slot x)) 8) (s .pre .value Tvm)) ∙ ap not (lowest-any (unused (l .slot k)) 8)
+    ∙ at-9 (s .args .q .number) _ (not (any (unused (l .slot k)) 8)) (c .before .before .match .keys2)
 
 returns-3 : tie.Need-returns-3
 unfolding refuses9

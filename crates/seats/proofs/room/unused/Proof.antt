@@ -6,12 +6,12 @@ use borrow.Author.Needs.{needs}
 use Rattle.sets.specs.Look.{any}
 use Rattle.sets.proofs.Looks.{any-more, lowest-hit, lowest-none}
 use Rattle.rules.specs.Encoding.{view}
-use Rattle.seats.specs.Room.{unusedAt}
+use Rattle.rules.specs.Refusals.{unused}
 use Rattle.seats.proofs.room.unused.Statement.{statement}
 use Rattle.seats.proofs.room.unused.Tie as tie
 
 abbrev Inv-loop : tie.InvT-loop
-Inv-loop l k i₀ i = (i ≤ 8) × (any (unusedAt (view l) k) i ≡ false)
+Inv-loop l k i₀ i = (i ≤ 8) × (any (unused (view l .slot k)) i ≡ false)
 
 abbrev μ-loop : tie.MeasureT-loop
 μ-loop l k i₀ i = 8 - i
@@ -26,7 +26,7 @@ is-unused-requires c κs = search needs
 returns : tie.Need-returns Inv-loop μ-loop
 returns c =
     let at = c .before .before .before in
-    sym (lowest-hit (unusedAt (view (at .before .args .l .now)) (at .before .args .k)) (at .loop .i) 8 (c .before .before .loop-test .taken) (at .loop .inv .1) (sym (c .before .is-unused .ensures) ∙ c .if1 .taken))
+    sym (lowest-hit (unused (view (at .before .args .l .now) .slot (at .before .args .k))) (at .loop .i) 8 (c .before .before .loop-test .taken) (at .loop .inv .1) (sym (c .before .is-unused .ensures) ∙ c .if1 .taken))
 
 add-i : tie.Need-add-i Inv-loop μ-loop
 add-i c = search needs
@@ -41,7 +41,7 @@ loop-again c =
 
 returns-2 : tie.Need-returns-2 Inv-loop μ-loop
 returns-2 c =
-    let P = unusedAt (view (c .before .before .args .l .now)) (c .before .before .args .k) in
+    let P = unused (view (c .before .before .args .l .now) .slot (c .before .before .args .k)) in
     let e : c .before .loop .i ≡ 8 = omega arith in
     sym (lowest-none P 8 (ap (any P) (sym e) ∙ c .before .loop .inv .1))
 
