@@ -5,6 +5,9 @@ import re
 import subprocess
 import sys
 
+sys.dont_write_bytecode = True
+import chains
+
 library, entry = sys.argv[1:3]
 dump = subprocess.run(["objdump", "-dr", "--no-show-raw-insn", library], check=True, capture_output=True, text=True).stdout
 
@@ -68,23 +71,4 @@ for line in dump.splitlines():
                 pending = None
     frames[name] = max(frames[name], depth)
 
-needed = sorted({callee for edges in calls.values() for _, _, callee in edges} - set(frames))
-
-
-def deepest(f, above):
-    if f in above:
-        sys.exit(f"a recursion: {' '.join(above)} {f}")
-    if f not in frames:
-        return 8, [f]
-    best = 8 + frames[f], [f]
-    for _, _, callee in calls[f]:
-        d, chain = deepest(callee, above + [f])
-        if 8 + frames[f] + d > best[0]:
-            best = 8 + frames[f] + d, [f] + chain
-    return best
-
-
-bytes_deep, chain = deepest(entry, [])
-print(bytes_deep)
-print(" > ".join(chain))
-print("needs " + (" ".join(needed) or "nothing"))
+chains.report(entry, frames, {f: {callee for _, _, callee in edges} for f, edges in calls.items()}, 8)

@@ -1,5 +1,5 @@
 /* How deep a call goes: each record of the tapes named is one call on a stack of its own that was painted before. Prints the deepest of all calls in
- * bytes, with the entry's own return address, and how many calls there were. */
+ * bytes, with the entry's own return address where a call pushes it, that call's number, and how many calls there were. */
 #include <stdio.h>
 #include <stdlib.h>
 #include <string.h>
@@ -8,6 +8,13 @@
 #include "roadbellow.h"
 
 enum { STACK = 1 << 16, PAINT = 0xA5, RECORD = 52 };
+
+/* What the call itself pushes: RISC-V has the return address in a register. */
+#ifdef __riscv
+enum { PUSHED = 0 };
+#else
+enum { PUSHED = sizeof(void *) };
+#endif
 
 static uint8_t stack[STACK] __attribute__((aligned(16)));
 static uint32_t ledger[ROADBELLOW_LEDGER_WORDS];
@@ -52,7 +59,7 @@ static uint64_t word(const uint8_t *p) {
 }
 
 int main(int argc, char **argv) {
-    const size_t own = depth_of(nothing) - sizeof(void *);
+    const size_t own = depth_of(nothing) - PUSHED;
     size_t deepest = 0, calls = 0;
     uint64_t deepest_call = 0;
     for (int i = 1; i < argc; i++) {
