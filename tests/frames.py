@@ -9,7 +9,7 @@ sys.dont_write_bytecode = True
 import chains
 
 library, entry = sys.argv[1:3]
-dump = subprocess.run(["objdump", "-dr", "--no-show-raw-insn", library], check=True, capture_output=True, text=True).stdout
+dump = subprocess.run(["x86_64-linux-gnu-objdump", "-dr", "--no-show-raw-insn", library], check=True, capture_output=True, text=True).stdout
 
 frames, calls = {}, {}
 name = None
