@@ -7,6 +7,9 @@ use crate::callgrind;
 use crate::engine::{Engine, Proved, Reply, Second};
 use crate::script::{Part, Row, Step, Workload};
 
+/// The name of what callgrind counts of a call that is not made.
+pub const NO_CALL: &str = "no call";
+
 /// Shorter parts are not timed: the clock would be most of it.
 const SHORTEST: Duration = Duration::from_micros(1);
 
@@ -94,17 +97,38 @@ fn same_tables(proved: &Proved, second: &Second) -> Result<(), String> {
     }
 }
 
-/// Runs every workload on one engine, with a dump of callgrind's for each row.
-/// Callgrind counts inside of the engine's call alone, so neither the loop nor a
-/// fresh table is counted.
+/// Makes the calls as `run` does, and callgrind counts within each alone, so that
+/// neither the loop nor a fresh table is counted.
+fn run_counted<E: Engine>(engine: &mut E, steps: &[Step]) -> u64 {
+    let mut sum = 0u64;
+    for step in steps {
+        match step {
+            Step::Fresh(pages) => *engine = E::fresh(*pages),
+            Step::Call(call) => {
+                callgrind::toggle();
+                let Reply { error, value } = engine.call(call);
+                callgrind::toggle();
+                sum = sum.wrapping_add(value).wrapping_add(error as u64);
+            }
+        }
+    }
+    sum
+}
+
+/// Runs every workload on one engine, with a dump of callgrind's for each row, and
+/// before them one of a call that is not made.
 pub fn count<E: Engine>(works: &[Workload]) -> u64 {
+    callgrind::zero();
+    callgrind::toggle();
+    callgrind::toggle();
+    callgrind::dump(NO_CALL);
     let mut row = 0;
     let mut sum = 0u64;
     for work in works {
         let mut engine = E::fresh(0);
         for part in &work.parts {
             callgrind::zero();
-            sum = sum.wrapping_add(run(&mut engine, &part.steps));
+            sum = sum.wrapping_add(run_counted(&mut engine, &part.steps));
             if part.row.is_some() {
                 callgrind::dump(&count_name::<E>(row));
                 row += 1;

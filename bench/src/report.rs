@@ -3,7 +3,7 @@
 use std::collections::HashMap;
 
 use crate::engine::{Proved, Second};
-use crate::measure::{count_name, rows};
+use crate::measure::{count_name, rows, NO_CALL};
 use crate::script::{Row, Workload};
 
 /// At most 8.5 times the cost for 8 times the pages.
@@ -42,12 +42,13 @@ fn lines<'w>(
     counts: &HashMap<String, u64>,
     times: &[Option<f64>],
 ) -> Result<Vec<Line<'w>>, String> {
+    let requests = *counts.get(NO_CALL).ok_or("callgrind counted no call")? as f64;
     rows(works)
         .enumerate()
         .map(|(index, (part, row))| {
             let calls = part.calls();
             let count = |name: String| match counts.get(&name) {
-                Some(&count) if count > 0 => Ok(count as f64 / calls as f64),
+                Some(&count) if count > 0 => Ok(count as f64 / calls as f64 - requests),
                 _ => Err(format!(
                     "callgrind counted nothing for {name}, {}",
                     row.name
