@@ -8,7 +8,7 @@ ghost use Rattle.rules.specs.Calls.{size, span};
 ghost use Rattle.rules.specs.Refusals as n;
 ghost use Rattle.rules.specs.Encoding.{view, pagesOf};
 ghost use Rattle.door.specs.Asked.{Asked};
-ghost use Rattle.door.specs.Places.{Countable, pastGuest, sizeBy};
+ghost use Rattle.door.specs.Places.{Countable, namesPlace, pastGuest, sizeBy};
 use super::early::names;
 use super::roles::COUNT;
 use super::roles::DIRECTORY;
@@ -81,6 +81,14 @@ fn in_directory(directory: u64, state: u64) -> bool
         return false;
     }
     state - directory < 16384
+}
+
+// The call names an address. Of one that names none 5, 6, 7 and 14 cannot hold.
+pub fn names_place(q: Call, a: &[u64; 12]) -> bool
+    requires { ⌜ Asked q (now a) ⌝ }
+    ensures { λ r. ⌜ r ≡ namesPlace q ⌝ }
+{
+    names(a, HOST) | names(a, DIRECTORY) | names(a, FREE) | names(a, GUEST)
 }
 
 // How many pages the call's range has.

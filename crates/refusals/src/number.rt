@@ -9,6 +9,7 @@ use door::early::refuses1;
 use door::early::refuses2;
 use door::early::refuses3;
 use door::early::refuses4;
+use door::places::names_place;
 use door::places::refuses5;
 use door::places::sized;
 use looks::claimed::refuses11;
@@ -93,6 +94,9 @@ pub fn refusal(l: &[u32; 426], t: &[u8], q: Call, a: &[u64; 12]) -> u64
         return 4;
     }
     let pages = sized(q, a);
+    if !names_place(q, a) {
+        return from_8(l, t, q, a, pages, false);
+    }
     if refuses5(l, t, q, a, pages) {
         return 5;
     }
