@@ -7,7 +7,7 @@
 
 #include "roadbellow.h"
 
-enum { STACK = 1 << 16, PAINT = 0xA5, RECORD = 52 };
+enum { STACK = 1 << 14, PAINT = 0xA5, RECORD = 52 };
 
 /* What the call itself pushes: RISC-V has the return address in a register. */
 #ifdef __riscv
