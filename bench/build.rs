@@ -1,15 +1,13 @@
-//! Links the proved ledger, which `rt staticlib abi` writes below target/.
+//! Links the proved ledger, libabi.a in the folder that LIBRARY names; bench/run builds it.
 
 use std::env;
 use std::path::Path;
 
 fn main() {
-    let here = env::var("CARGO_MANIFEST_DIR").expect("cargo names the package's folder");
-    let folder = Path::new(&here).join("../target/staticlib");
-    println!("cargo:rustc-link-search=native={}", folder.display());
+    println!("cargo:rerun-if-env-changed=LIBRARY");
+    let folder = env::var("LIBRARY").expect("LIBRARY names the folder of libabi.a");
+    println!("cargo:rustc-link-search=native={}", folder);
     println!("cargo:rustc-link-lib=static=abi");
-    println!(
-        "cargo:rerun-if-changed={}",
-        folder.join("libabi.a").display()
-    );
+    let library = Path::new(&folder).join("libabi.a");
+    println!("cargo:rerun-if-changed={}", library.display());
 }

@@ -3,6 +3,7 @@ use Rattle.sets.specs.Terms.{ℕ, _*_, _/_, Bool, false, cond, _&&_, List, [], 
 use Rattle.sets.specs.Set.{member, with}
 use Rattle.rules.specs.declared.Call.{Call}
 use Rattle.rules.specs.declared.Role.{Role}
+use Rattle.rules.specs.declared.Role.the-variants.{Vcpu, UnitCount, UnitType, ByteLength, HartCount, PageCount}
 use Rattle.rules.specs.Calls.{code, names, arg, unnamed}
 
 -- some argument whose role is 0 is not 0
@@ -24,6 +25,13 @@ rolesOf r0 r1 r2 r3 r4 r5 = with (with (with (with (with (with 0 r0) r1) r2) r3)
 -- a range of that length or count has more than 4,096 pages
 abbrev pub longBy : Bool → Bool → ℕ → ℕ → ℕ → Bool
 longBy measured counted long count kind = cond measured (ltb 4096 (long / 4096)) (cond counted (ltb 4096 (count * cond (eqb kind 1) 512 1)) false)
+
+-- what refusal 4 looks at beside the hart: an argument that is not named and not 0; those of these roles
+abbrev pub more : Call → List Bool
+more c = unnamed c ∷ names Vcpu c ∷ names UnitCount c ∷ names UnitType c ∷ names ByteLength c ∷ names HartCount c ∷ names PageCount c ∷ []
+
+abbrev pub namesMore : Call → Bool
+namesMore c = oneOf (more c)
 
 pub record Asked (c : Call) (a : List ℕ) : Type 0 where
   pub size : length a ≡ 12

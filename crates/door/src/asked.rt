@@ -4,15 +4,16 @@ ghost use mathlib.Core.Path.{_≡_};
 ghost use mathlib.Core.Bool.{cond};
 ghost use Prim.Native.Nat.{_<_};
 ghost use Rattle.sets.specs.Set.{with, without};
-ghost use Rattle.rules.specs.Tables.{roleAt};
+ghost use Rattle.rules.specs.Tables.{roleAt, rowOf};
 ghost use Rattle.door.specs.Asked.{Asked, unnamedBy, rolesOf};
 use rules::Call;
 use rules::tables::role_at;
 
-fn role(call: u64, i: u64) -> u64
+fn role(call: u64, row: u64, i: u64) -> u64
+    requires { ⌜ row ≡ rowOf call ⌝ }
     ensures { λ r. ⌜ (r ≡ roleAt call i) × (r < 12) ⌝ }
 {
-    role_at(call, i)
+    role_at(call, row, i)
 }
 
 // Some argument whose role is 0 is not 0.
@@ -64,16 +65,18 @@ fn marked(s: u64, spare: bool) -> u64
     }
 }
 
-pub fn asked(q: Call) -> [u64; 12]
+// `row` is the call's row of the table of calls.
+pub fn asked(q: Call, row: u64) -> [u64; 12]
+    requires { ⌜ row ≡ rowOf (q .number) ⌝ }
     ensures { λ r. ⌜ Asked q r ⌝ }
 {
     let n = q.number;
-    let r0 = role(n, 0);
-    let r1 = role(n, 1);
-    let r2 = role(n, 2);
-    let r3 = role(n, 3);
-    let r4 = role(n, 4);
-    let r5 = role(n, 5);
+    let r0 = role(n, row, 0);
+    let r1 = role(n, row, 1);
+    let r2 = role(n, row, 2);
+    let r3 = role(n, row, 3);
+    let r4 = role(n, row, 4);
+    let r5 = role(n, row, 5);
     let mut a = [0u64; 12];
     a[r5 as usize] = q.a5;
     a[r4 as usize] = q.a4;

@@ -7,9 +7,10 @@ ghost use lib.ListN.{getD, length};
 ghost use Rattle.sets.specs.Set.{member};
 ghost use Rattle.rules.specs.Page.{fits as fitsTable};
 ghost use Rattle.rules.specs.Ledger.{isOpen};
+ghost use Rattle.rules.specs.Tables.{rowOf};
 ghost use Rattle.rules.specs.Refusals as n;
 ghost use Rattle.rules.specs.Encoding.{view, pagesOf};
-ghost use Rattle.door.specs.Asked.{Asked, longBy};
+ghost use Rattle.door.specs.Asked.{Asked, longBy, namesMore};
 use super::roles::COUNT;
 use super::roles::HARTS;
 use super::roles::LENGTH;
@@ -31,10 +32,11 @@ pub fn names(a: &[u64; 12], role: usize) -> bool
     sets::word::has(a[0], role)
 }
 
-pub fn refuses1(l: &[u32; 426], t: &[u8], q: Call) -> bool
+pub fn refuses1(l: &[u32; 426], t: &[u8], q: Call, row: u64) -> bool
+    requires { ⌜ row ≡ rowOf (q .number) ⌝ }
     ensures { λ r. ⌜ r ≡ n.refuses1 (view (now (l .entry))) (pagesOf (now (t .entry))) q ⌝ }
 {
-    is_unknown(q.number)
+    is_unknown(q.number, row)
 }
 
 pub fn refuses2(l: &[u32; 426], t: &[u8], q: Call, a: &[u64; 12]) -> bool
@@ -68,15 +70,15 @@ fn fits(t: &[u8], n: u64) -> bool
     (len / 8 == n) & (len % 8 == 0)
 }
 
-pub fn refuses3(l: &[u32; 426], t: &[u8], q: Call, a: &[u64; 12]) -> bool
-    requires { ⌜ Asked q (now a) ⌝ }
+pub fn refuses3(l: &[u32; 426], t: &[u8], q: Call, a: &[u64; 12], row: u64) -> bool
+    requires { ⌜ Asked q (now a) × (row ≡ rowOf (q .number)) ⌝ }
     ensures { λ r. ⌜ r ≡ n.refuses3 (view (now (l .entry))) (pagesOf (now (t .entry))) q ⌝ }
 {
     let tvm = a[TVM];
     let number = q.number;
     let named = names(a, TVM);
     let phase = parts::phase(l, tvm);
-    let lawful = is_lawful(number, phase as u64);
+    let lawful = is_lawful(number, row, phase as u64);
     let open = is_open(l);
     let pages = sizes::pages(l);
     let sized = fits(t, pages as u64);
@@ -114,7 +116,7 @@ pub fn is_made(l: &[u32; 426], k: u64, v: u64) -> bool
     }
 }
 
-pub fn refuses4(l: &[u32; 426], t: &[u8], q: Call, a: &[u64; 12]) -> bool
+fn any_out_of_range(l: &[u32; 426], t: &[u8], q: Call, a: &[u64; 12]) -> bool
     requires { ⌜ Asked q (now a) ⌝ }
     ensures { λ r. ⌜ r ≡ n.refuses4 (view (now (l .entry))) (pagesOf (now (t .entry))) q ⌝ }
 {
@@ -147,4 +149,30 @@ pub fn refuses4(l: &[u32; 426], t: &[u8], q: Call, a: &[u64; 12]) -> bool
         | ((number == 15) & !made)
         | ((number == 33) & !((1 <= harts) & (harts < 9)))
         | ((number == 33) & !(((1 <= pages) & (pages < 4097)) & sized))
+}
+
+// The call names an argument that 4 looks at, or one that is not named is not 0.
+fn names_more(q: Call, a: &[u64; 12]) -> bool
+    requires { ⌜ Asked q (now a) ⌝ }
+    ensures { λ r. ⌜ r ≡ namesMore q ⌝ }
+{
+    names(a, 0)
+        | names(a, VCPU)
+        | names(a, COUNT)
+        | names(a, TYPE)
+        | names(a, LENGTH)
+        | names(a, HARTS)
+        | names(a, PAGES)
+}
+
+// Of a call that names at most a tvm only the hart can be out of range.
+pub fn refuses4(l: &[u32; 426], t: &[u8], q: Call, a: &[u64; 12]) -> bool
+    requires { ⌜ Asked q (now a) ⌝ }
+    ensures { λ r. ⌜ r ≡ n.refuses4 (view (now (l .entry))) (pagesOf (now (t .entry))) q ⌝ }
+{
+    let hart = q.hart;
+    if names_more(q, a) {
+        return any_out_of_range(l, t, q, a);
+    }
+    sizes::harts(l) as u64 <= hart
 }

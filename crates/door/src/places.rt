@@ -83,7 +83,7 @@ fn in_directory(directory: u64, state: u64) -> bool
     state - directory < 16384
 }
 
-// The call names an address. Of one that names none 5, 6, 7 and 14 cannot hold.
+// The call names an address. Of one that names none 5, 6, 7 and 14 cannot hold, and nothing of them is reckoned.
 pub fn names_place(q: Call, a: &[u64; 12]) -> bool
     requires { ⌜ Asked q (now a) ⌝ }
     ensures { λ r. ⌜ r ≡ namesPlace q ⌝ }
@@ -101,7 +101,7 @@ pub fn sized(q: Call, a: &[u64; 12]) -> u64
     pages_of(measured, counted, a[LENGTH], a[COUNT], a[TYPE])
 }
 
-pub fn refuses5(l: &[u32; 426], t: &[u8], q: Call, a: &[u64; 12], pages: u64) -> bool
+fn any_misplaced(l: &[u32; 426], t: &[u8], q: Call, a: &[u64; 12], pages: u64) -> bool
     requires { ⌜ Asked q (now a) × (pages ≡ size q) ⌝ }
     ensures { λ r. ⌜ r ≡ n.refuses5 (view (now (l .entry))) (pagesOf (now (t .entry))) q ⌝ }
 {
@@ -117,4 +117,14 @@ pub fn refuses5(l: &[u32; 426], t: &[u8], q: Call, a: &[u64; 12], pages: u64) ->
         | (names(a, GUEST) & (guest % (4096 * unit) != 0))
         | (names(a, GUEST) & past_guest(guest, pages))
         | (names(a, DIRECTORY) & in_directory(directory, free))
+}
+
+pub fn refuses5(l: &[u32; 426], t: &[u8], q: Call, a: &[u64; 12], pages: u64) -> bool
+    requires { ⌜ Asked q (now a) × (pages ≡ size q) ⌝ }
+    ensures { λ r. ⌜ r ≡ n.refuses5 (view (now (l .entry))) (pagesOf (now (t .entry))) q ⌝ }
+{
+    if names_place(q, a) {
+        return any_misplaced(l, t, q, a, pages);
+    }
+    false
 }

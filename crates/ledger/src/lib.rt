@@ -12,6 +12,7 @@ use kept::on_ledger;
 use refusals::number::refusal;
 use rules::Answer;
 use rules::Call;
+use rules::tables::row;
 use table::on_table;
 use words::cells::known;
 
@@ -19,8 +20,9 @@ use words::cells::known;
 fn settle(l: &mut [u32; 426], t: &mut [u8], q: Call) -> Answer
     ensures { λ r. ⌜ Settled (view (now (l .entry))) (pagesOf (now (t .entry))) q r (view (now (l .exit))) (pagesOf (now (t .exit))) ⌝ }
 {
-    let a = asked(q);
-    let number = refusal(&*l, &*t, q, &a);
+    let row = row(q.number);
+    let a = asked(q, row);
+    let number = refusal(&*l, &*t, q, &a, row);
     if number == 0 {
         let pages = sized(q, &a);
         on_table(&*l, &mut *t, q, &a, pages);

@@ -11,6 +11,7 @@ ghost use Rattle.door.specs.Ready.{Ready};
 ghost use Rattle.looks.specs.Sights.{Seen, isUnwanted, isUnfinished, isUnready, isUndone, hasCut, InTable, lookAt, guestsAt};
 use door::early::names;
 use door::places::MEMORY;
+use door::places::names_place;
 use door::roles::DIRECTORY;
 use door::roles::FREE;
 use door::roles::GUEST;
@@ -134,7 +135,7 @@ fn guests_at(l: &[u32; 426], t: &[u8], q: Call, a: &[u64; 12], pages: u64) -> Gu
     }
 }
 
-pub fn look(l: &[u32; 426], t: &[u8], q: Call, a: &[u64; 12], pages: u64) -> Sight
+fn look_at_all(l: &[u32; 426], t: &[u8], q: Call, a: &[u64; 12], pages: u64) -> Sight
     requires { ⌜ Ready (now l) (now t) q (now a) pages ⌝ }
     ensures { λ r. ⌜ Seen (view (now (l .entry))) (pagesOf (now (t .entry))) q r ⌝ }
 {
@@ -154,5 +155,19 @@ pub fn look(l: &[u32; 426], t: &[u8], q: Call, a: &[u64; 12], pages: u64) -> Sig
         refuses6,
         refuses7,
         refuses14,
+    }
+}
+
+pub fn look(l: &[u32; 426], t: &[u8], q: Call, a: &[u64; 12], pages: u64) -> Sight
+    requires { ⌜ Ready (now l) (now t) q (now a) pages ⌝ }
+    ensures { λ r. ⌜ Seen (view (now (l .entry))) (pagesOf (now (t .entry))) q r ⌝ }
+{
+    if names_place(q, a) {
+        return look_at_all(l, t, q, a, pages);
+    }
+    Sight {
+        refuses6: false,
+        refuses7: false,
+        refuses14: false,
     }
 }

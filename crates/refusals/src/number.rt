@@ -1,6 +1,7 @@
 // The number of a refusal: the lowest whose condition holds, 0 where none does.
 ghost use mathlib.Core.Path.{_≡_};
 ghost use lib.ListN.{drop};
+ghost use Rattle.rules.specs.Tables.{rowOf};
 ghost use Rattle.rules.specs.Refusals as n;
 ghost use Rattle.rules.specs.Encoding.{view, pagesOf};
 ghost use Rattle.door.specs.Asked.{Asked};
@@ -9,7 +10,6 @@ use door::early::refuses1;
 use door::early::refuses2;
 use door::early::refuses3;
 use door::early::refuses4;
-use door::places::names_place;
 use door::places::refuses5;
 use door::places::sized;
 use looks::claimed::refuses11;
@@ -77,26 +77,23 @@ fn from_6(l: &[u32; 426], t: &[u8], q: Call, a: &[u64; 12], pages: u64) -> u64
 }
 
 // The first five look at no record, and give the bounds that the others need.
-pub fn refusal(l: &[u32; 426], t: &[u8], q: Call, a: &[u64; 12]) -> u64
-    requires { ⌜ Asked q (now a) ⌝ }
+pub fn refusal(l: &[u32; 426], t: &[u8], q: Call, a: &[u64; 12], row: u64) -> u64
+    requires { ⌜ Asked q (now a) × (row ≡ rowOf (q .number)) ⌝ }
     ensures { λ r. ⌜ r ≡ n.refusal (view (now (l .entry))) (pagesOf (now (t .entry))) q ⌝ }
 {
-    if refuses1(l, t, q) {
+    if refuses1(l, t, q, row) {
         return 1;
     }
     if refuses2(l, t, q, a) {
         return 2;
     }
-    if refuses3(l, t, q, a) {
+    if refuses3(l, t, q, a, row) {
         return 3;
     }
     if refuses4(l, t, q, a) {
         return 4;
     }
     let pages = sized(q, a);
-    if !names_place(q, a) {
-        return from_8(l, t, q, a, pages, false);
-    }
     if refuses5(l, t, q, a, pages) {
         return 5;
     }

@@ -7,7 +7,7 @@ use mathlib.Core.Path.{_≡_, refl, sym, _∙_, ap, subst}
 use native.Mathlib.Omega.{arith}
 use lib.Dec.{leb, ltb, eqb}
 use lib.ListN.{length, getD, length-map, List·getD-eq-default}
-use borrow.Author.Tests.{eqb-true, ne-eqb, leb-true, ltb-true}
+use borrow.Author.Tests.{eqb-true, ne-eqb, leb-true, ltb-true, ltb-false}
 use Rattle.sets.specs.Terms.{oneOf, anyIn}
 use Rattle.sets.specs.Look.{all}
 use Rattle.sets.proofs.Bools.{by-test, and-left, and-right}
@@ -15,7 +15,7 @@ use Rattle.sets.proofs.Looks.{all-at}
 use Rattle.rules.specs.declared.Call.{Call}
 use Rattle.rules.specs.declared.Role.{Role}
 use Rattle.rules.specs.Calls.{names, Entry, Phases, noPhase, I, R, IR, code, allows, entry, find, calls, entryOf}
-use Rattle.rules.specs.Tables.{phaseSet, roleAt, callDigit}
+use Rattle.rules.specs.Tables.{phaseSet, roleAt, callDigit, rowOf}
 
 -- the rows of src/tables.rt
 unfoldable pub rows : List ℕ
@@ -24,15 +24,19 @@ rows =
     ∷ 0x1614_6000 ∷ 0x1213_4768 ∷ 0x1414_7680 ∷ 0x0000_0000 ∷ 0x1212_4000 ∷ 0x1412_0000 ∷ 0x1410_0000 ∷ 0x1418_9000 ∷ 0x1418_9000 ∷ 0x1418_9000
     ∷ 0 ∷ 0 ∷ 0 ∷ 0 ∷ 0 ∷ 0 ∷ 0 ∷ 0 ∷ 0 ∷ 0 ∷ 0 ∷ 0 ∷ 0x1000_0000 ∷ 0x10ab_0000 ∷ []
 
-abbrev right : ℕ → ℕ → Bool
-right n i = eqb (getD rows n 0 / 2 ^ (4 * (7 - i)) % 16) (callDigit n i)
+rows-right : all (λ n. eqb (getD rows n 0) (rowOf n)) 34 ≡ true
+unfolding all rows rowOf callDigit entryOf
+rows-right = refl
 
-whole : all (λ n. all (right n) 8) 34 ≡ true
-unfolding all rows callDigit entryOf
-whole = refl
+pub row-is : (n : ℕ) → n < 34 → getD rows n 0 ≡ rowOf n
+row-is n h = eqb-true _ _ (all-at (λ n. eqb (getD rows n 0) (rowOf n)) 34 n rows-right h)
 
-pub row-digit : (n i : ℕ) → n < 34 → i < 8 → getD rows n 0 / 2 ^ (4 * (7 - i)) % 16 ≡ callDigit n i
-row-digit n i h l = eqb-true _ _ (all-at (right n) 8 i (all-at (λ n. all (right n) 8) 34 n whole h) l)
+rows-small : all (λ n. ltb (getD rows n 0) 4294967296) 34 ≡ true
+unfolding all rows
+rows-small = refl
+
+pub row-small : (n : ℕ) → n < 34 → getD rows n 0 < 4294967296
+row-small n h = ltb-true _ _ (all-at (λ n. ltb (getD rows n 0) 4294967296) 34 n rows-small h)
 
 -- no call has a number past the table
 below : List Entry → Bool
@@ -61,6 +65,27 @@ past-digit n h i = rw (past-entry n h) (zeros i)
     zeros zero = refl
     zeros (suc zero) = refl
     zeros (suc (suc i)) = refl
+
+pub past-row : (n : ℕ) → 34 ≤ n → rowOf n ≡ 0
+unfolding rowOf
+past-row n h = rw (past-digit n h 0, past-digit n h 1, past-digit n h 2, past-digit n h 3, past-digit n h 4, past-digit n h 5, past-digit n h 6, past-digit n h 7)
+
+-- a row's digits
+abbrev digitOf : ℕ → ℕ → ℕ
+digitOf x i = x / 2 ^ (4 * (7 - i)) % 16
+
+digits-right : all (λ n. all (λ i. eqb (digitOf (rowOf n) i) (callDigit n i)) 8) 34 ≡ true
+unfolding all rowOf callDigit entryOf
+digits-right = refl
+
+no-digits : all (λ i. eqb (digitOf 0 i) 0) 8 ≡ true
+unfolding all
+no-digits = refl
+
+pub row-digit : (n i : ℕ) → i < 8 → rowOf n / 2 ^ (4 * (7 - i)) % 16 ≡ callDigit n i
+row-digit n i l =
+    by-test (ltb n 34) (λ e. eqb-true _ _ (all-at (λ i. eqb (digitOf (rowOf n) i) (callDigit n i)) 8 i (all-at (λ n. all (λ i. eqb (digitOf (rowOf n) i) (callDigit n i)) 8) 34 n digits-right (ltb-true n 34 e)) l))
+    (λ e. let h = ltb-false n 34 e in rw (past-row n h, past-digit n h i) (eqb-true _ _ (all-at (λ i. eqb (digitOf 0 i) 0) 8 i no-digits l)))
 
 -- what the first digit says, and the second
 pub known-digit : (n : ℕ) → eqb (callDigit n 0) 0 ≡ eqb (entryOf n .number) 0

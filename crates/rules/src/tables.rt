@@ -4,7 +4,7 @@ ghost use Prim.Native.Nat.{_<_};
 ghost use Rattle.rules.specs.Calls.{allows, entryOf};
 ghost use lib.Dec.{eqb};
 ghost use Rattle.rules.specs.Step.{errorOf, valueOf};
-ghost use Rattle.rules.specs.Tables.{roleAt, callDigit};
+ghost use Rattle.rules.specs.Tables.{roleAt, callDigit, rowOf};
 use super::Answer;
 
 const ERRORS: [i64; 16] = [
@@ -94,38 +94,48 @@ pub fn value_of(answer: Answer) -> u64
     }
 }
 
-// Hex digit i of a call's row, from 0 on the left.
-fn digit(call: u64, i: u64) -> u64
-    requires { ⌜ i < 8 ⌝ }
-    ensures { λ r. ⌜ r ≡ callDigit call i ⌝ }
+// A call's row. It is looked up once for a call and handed on: a look puts the whole table on the stack.
+pub fn row(call: u64) -> u64
+    ensures { λ r. ⌜ r ≡ rowOf call ⌝ }
 {
     if call < 34 {
         let row = CALLS[call as usize];
-        ((row >> (4 * (7 - i))) % 16) as u64
+        row as u64
     } else {
         0
     }
 }
 
-pub fn is_unknown(call: u64) -> bool
-    ensures { λ r. ⌜ r ≡ eqb (entryOf call .number) 0 ⌝ }
+// Hex digit i of a call's row, from 0 on the left.
+fn digit(call: u64, row: u64, i: u64) -> u64
+    requires { ⌜ (row ≡ rowOf call) × (i < 8) ⌝ }
+    ensures { λ r. ⌜ r ≡ callDigit call i ⌝ }
 {
-    digit(call, 0) == 0
+    (row >> (4 * (7 - i))) % 16
 }
 
-pub fn is_lawful(call: u64, phase: u64) -> bool
+pub fn is_unknown(call: u64, row: u64) -> bool
+    requires { ⌜ row ≡ rowOf call ⌝ }
+    ensures { λ r. ⌜ r ≡ eqb (entryOf call .number) 0 ⌝ }
+{
+    digit(call, row, 0) == 0
+}
+
+pub fn is_lawful(call: u64, row: u64, phase: u64) -> bool
+    requires { ⌜ row ≡ rowOf call ⌝ }
     ensures { λ r. ⌜ r ≡ allows (entryOf call .phases) phase ⌝ }
 {
     if phase < 4 {
-        (digit(call, 1) >> phase) % 2 == 1
+        (digit(call, row, 1) >> phase) % 2 == 1
     } else {
         false
     }
 }
 
 // What argument i of a call is: the number of its role.
-pub fn role_at(call: u64, i: u64) -> u64
+pub fn role_at(call: u64, row: u64, i: u64) -> u64
+    requires { ⌜ row ≡ rowOf call ⌝ }
     ensures { λ r. ⌜ r ≡ roleAt call i ⌝ }
 {
-    if i < 6 { digit(call, i + 2) } else { 0 }
+    if i < 6 { digit(call, row, i + 2) } else { 0 }
 }

@@ -8,6 +8,9 @@ use Rattle.ledger.proofs.Settling.{accepted, refused, none-early}
 use Rattle.ledger.proofs.settle.Statement.{statement}
 use Rattle.ledger.proofs.settle.Tie as tie
 
+row-requires : tie.Need-row-requires
+row-requires c κs = search needs
+
 asked-requires : tie.Need-asked-requires
 asked-requires c κs = search needs
 
@@ -22,17 +25,17 @@ sized-requires c κs =
 
 on-table-requires : tie.Need-on-table-requires
 on-table-requires c κs =
-    record { asked = c .before .before .before .before .before .before .before .before .before .before .asked .ensures; sized = c .before .before .before .sized .ensures; early-off = none-early _ _ (c .before .before .before .before .before .before .before .before .before .before .before .before .args .q) (sym (c .before .before .before .before .before .before .refusal .ensures) ∙ c .before .before .before .before .before .if1 .taken) }
+    record { asked = c .before .before .before .before .before .before .before .before .before .before .asked .ensures; sized = c .before .before .before .sized .ensures; early-off = none-early _ _ (c .before .before .before .before .before .before .before .before .before .before .before .before .before .args .q) (sym (c .before .before .before .before .before .before .refusal .ensures) ∙ c .before .before .before .before .before .if1 .taken) }
 
 on-ledger-requires : tie.Need-on-ledger-requires
-on-ledger-requires c κs = ((pagesOf (c .before .before .before .before .before .before .before .before .before .before .before .before .before .before .before .before .before .args .t .now), sym (c .before .before .before .before .before .before .before .before .before .before .before .refusal .ensures) ∙ c .before .before .before .before .before .before .before .before .before .before .if1 .taken), c .before .before .before .before .before .before .before .before .before .before .before .before .before .before .before .asked .ensures, c .before .before .before .before .before .before .before .before .sized .ensures)
+on-ledger-requires c κs = ((pagesOf (c .before .before .before .before .before .before .before .before .before .before .before .before .before .before .before .before .before .before .args .t .now), sym (c .before .before .before .before .before .before .before .before .before .before .before .refusal .ensures) ∙ c .before .before .before .before .before .before .before .before .before .before .if1 .taken), c .before .before .before .before .before .before .before .before .before .before .before .before .before .before .before .asked .ensures, c .before .before .before .before .before .before .before .before .sized .ensures)
 
 same-length : tie.Need-same-length
 same-length c = search needs
 
 returns : tie.Need-returns
 returns c =
-    let s = c .before .before .before .before .before .before .before .before .before .before .before .before .before .before .before .before .before .before in
+    let s = c .before .before .before .before .before .before .before .before .before .before .before .before .before .before .before .before .before .before .before in
     let k = c .on-ledger .ensures (pagesOf (s .args .t .now)) in
     accepted (view (s .args .l .now)) (pagesOf (s .args .t .now)) (s .args .q) _ _ _ (sym (c .before .before .before .before .before .before .before .before .before .before .before .before .refusal .ensures) ∙ c .before .before .before .before .before .before .before .before .before .before .before .if1 .taken) (k .0) (k .1) (c .before .before .before .before .before .on-table .ensures)
 
@@ -41,13 +44,14 @@ same-length-2 c = search needs
 
 returns-2 : tie.Need-returns-2
 returns-2 c =
-    let s = c .before .before .before .before .before .before .before in
+    let s = c .before .before .before .before .before .before .before .before in
     refused (view (s .args .l .now)) (pagesOf (s .args .t .now)) (s .args .q) _ (c .before .refusal .ensures) (c .if1 .left)
 
 pub settle-spec : {M : Type 1} → statement M
 settle-spec =
     tie.close
     (tie.spec
+    row-requires
     asked-requires
     refusal-requires
     sized-requires

@@ -35,7 +35,7 @@ fits-requires c κs = search needs
 returns : tie.Need-returns
 unfolding refuses3 oneOf oneFrom
 returns c =
-    let a = c .before .before .before .before .before .before .before .before .pre in
+    let a = c .before .before .before .before .before .before .before .before .pre .0 in
     rw (
       c .before .before .before .before .before .names .ensures,
       a .named Tvm,

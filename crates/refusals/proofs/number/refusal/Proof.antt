@@ -1,10 +1,7 @@
 use mathlib.Core.Path.{sym, _∙_}
-use borrow.Author.Tests.{not-true}
 use borrow.Author.Needs.{needs}
 use Rattle.sets.proofs.OneOf.{one-off}
 use Rattle.rules.specs.Refusals.{refusal, refuses4}
-use Rattle.rules.specs.Encoding.{view, pagesOf}
-use Rattle.door.proofs.Placeless.{not-5, not-6, not-7, not-14}
 use Rattle.refusals.proofs.number.refusal.Statement.{statement}
 use Rattle.refusals.proofs.number.refusal.Tie as tie
 
@@ -50,78 +47,42 @@ returns-4 c = rw (
 
 sized-requires : tie.Need-sized-requires
 unfolding refuses4
-sized-requires c κs = (c .before .before .before .before .before .before .before .before .before .pre, one-off _ (sym (c .before .refuses4 .ensures) ∙ c .if4 .left) 5)
-
-names-place-requires : tie.Need-names-place-requires
-names-place-requires c κs = search needs
-
-from-8-requires : tie.Need-from-8-requires
-from-8-requires c κs =
-    let x = c .before .before .before .before .before .before .before .before .before .before .before .before .args in
-    let e = sym (c .before .names-place .ensures) ∙ not-true _ (c .if5 .taken) in (
-      record {
-        asked = c .before .before .before .before .before .before .before .before .before .before .before .before .pre;
-        sized = c .before .before .sized .ensures;
-        early-off = rw (
-          sym (c .before .before .before .before .before .before .before .before .before .before .refuses1 .ensures) ∙ c .before .before .before .before .before .before .before .before .before .if1 .left,
-          sym (c .before .before .before .before .before .before .before .before .refuses2 .ensures) ∙ c .before .before .before .before .before .before .before .if2 .left,
-          sym (c .before .before .before .before .before .before .refuses3 .ensures) ∙ c .before .before .before .before .before .if3 .left,
-          sym (c .before .before .before .before .refuses4 .ensures) ∙ c .before .before .before .if4 .left,
-          not-5 (view (x .l .now)) (pagesOf (x .t .now)) (x .q) e,
-        );
-      },
-      sym (not-14 (view (x .l .now)) (pagesOf (x .t .now)) (x .q) e),
-    )
-
-returns-5 : tie.Need-returns-5
-unfolding refusal
-returns-5 c =
-    let x = c .before .before .before .before .before .before .before .before .before .before .before .before .before .args in
-    let e = sym (c .before .before .names-place .ensures) ∙ not-true _ (c .before .if5 .taken) in
-    c .from-8 .ensures ∙ rw (
-      sym (c .before .before .before .before .before .before .before .before .before .before .before .refuses1 .ensures) ∙ c .before .before .before .before .before .before .before .before .before .before .if1 .left,
-      sym (c .before .before .before .before .before .before .before .before .before .refuses2 .ensures) ∙ c .before .before .before .before .before .before .before .before .if2 .left,
-      sym (c .before .before .before .before .before .before .before .refuses3 .ensures) ∙ c .before .before .before .before .before .before .if3 .left,
-      sym (c .before .before .before .before .before .refuses4 .ensures) ∙ c .before .before .before .before .if4 .left,
-      not-5 (view (x .l .now)) (pagesOf (x .t .now)) (x .q) e,
-      not-6 (view (x .l .now)) (pagesOf (x .t .now)) (x .q) e,
-      not-7 (view (x .l .now)) (pagesOf (x .t .now)) (x .q) e,
-    )
+sized-requires c κs = (c .before .before .before .before .before .before .before .before .before .pre .0, one-off _ (sym (c .before .refuses4 .ensures) ∙ c .if4 .left) 5)
 
 refuses5-requires : tie.Need-refuses5-requires
 refuses5-requires c κs = search needs
 
-returns-6 : tie.Need-returns-6
+returns-5 : tie.Need-returns-5
 unfolding refusal
-returns-6 c = rw (
-  sym (c .before .before .before .before .before .before .before .before .before .before .before .before .refuses1 .ensures) ∙ c .before .before .before .before .before .before .before .before .before .before .before .if1 .left,
-  sym (c .before .before .before .before .before .before .before .before .before .before .refuses2 .ensures) ∙ c .before .before .before .before .before .before .before .before .before .if2 .left,
-  sym (c .before .before .before .before .before .before .before .before .refuses3 .ensures) ∙ c .before .before .before .before .before .before .before .if3 .left,
-  sym (c .before .before .before .before .before .before .refuses4 .ensures) ∙ c .before .before .before .before .before .if4 .left,
-  sym (c .before .refuses5 .ensures) ∙ c .if6 .taken,
+returns-5 c = rw (
+  sym (c .before .before .before .before .before .before .before .before .before .before .refuses1 .ensures) ∙ c .before .before .before .before .before .before .before .before .before .if1 .left,
+  sym (c .before .before .before .before .before .before .before .before .refuses2 .ensures) ∙ c .before .before .before .before .before .before .before .if2 .left,
+  sym (c .before .before .before .before .before .before .refuses3 .ensures) ∙ c .before .before .before .before .before .if3 .left,
+  sym (c .before .before .before .before .refuses4 .ensures) ∙ c .before .before .before .if4 .left,
+  sym (c .before .refuses5 .ensures) ∙ c .if5 .taken,
 )
 
 from-6-requires : tie.Need-from-6-requires
 from-6-requires c κs = record {
-  asked = c .before .before .before .before .before .before .before .before .before .before .before .before .before .before .pre;
-  sized = c .before .before .before .before .sized .ensures;
+  asked = c .before .before .before .before .before .before .before .before .before .before .before .before .pre .0;
+  sized = c .before .before .sized .ensures;
   early-off = rw (
-    sym (c .before .before .before .before .before .before .before .before .before .before .before .before .refuses1 .ensures) ∙ c .before .before .before .before .before .before .before .before .before .before .before .if1 .left,
-    sym (c .before .before .before .before .before .before .before .before .before .before .refuses2 .ensures) ∙ c .before .before .before .before .before .before .before .before .before .if2 .left,
-    sym (c .before .before .before .before .before .before .before .before .refuses3 .ensures) ∙ c .before .before .before .before .before .before .before .if3 .left,
-    sym (c .before .before .before .before .before .before .refuses4 .ensures) ∙ c .before .before .before .before .before .if4 .left,
-    sym (c .before .refuses5 .ensures) ∙ c .if6 .left,
+    sym (c .before .before .before .before .before .before .before .before .before .before .refuses1 .ensures) ∙ c .before .before .before .before .before .before .before .before .before .if1 .left,
+    sym (c .before .before .before .before .before .before .before .before .refuses2 .ensures) ∙ c .before .before .before .before .before .before .before .if2 .left,
+    sym (c .before .before .before .before .before .before .refuses3 .ensures) ∙ c .before .before .before .before .before .if3 .left,
+    sym (c .before .before .before .before .refuses4 .ensures) ∙ c .before .before .before .if4 .left,
+    sym (c .before .refuses5 .ensures) ∙ c .if5 .left,
   );
 }
 
-returns-7 : tie.Need-returns-7
+returns-6 : tie.Need-returns-6
 unfolding refusal
-returns-7 c = c .from-6 .ensures ∙ rw (
-  sym (c .before .before .before .before .before .before .before .before .before .before .before .before .before .refuses1 .ensures) ∙ c .before .before .before .before .before .before .before .before .before .before .before .before .if1 .left,
-  sym (c .before .before .before .before .before .before .before .before .before .before .before .refuses2 .ensures) ∙ c .before .before .before .before .before .before .before .before .before .before .if2 .left,
-  sym (c .before .before .before .before .before .before .before .before .before .refuses3 .ensures) ∙ c .before .before .before .before .before .before .before .before .if3 .left,
-  sym (c .before .before .before .before .before .before .before .refuses4 .ensures) ∙ c .before .before .before .before .before .before .if4 .left,
-  sym (c .before .before .refuses5 .ensures) ∙ c .before .if6 .left,
+returns-6 c = c .from-6 .ensures ∙ rw (
+  sym (c .before .before .before .before .before .before .before .before .before .before .before .refuses1 .ensures) ∙ c .before .before .before .before .before .before .before .before .before .before .if1 .left,
+  sym (c .before .before .before .before .before .before .before .before .before .refuses2 .ensures) ∙ c .before .before .before .before .before .before .before .before .if2 .left,
+  sym (c .before .before .before .before .before .before .before .refuses3 .ensures) ∙ c .before .before .before .before .before .before .if3 .left,
+  sym (c .before .before .before .before .before .refuses4 .ensures) ∙ c .before .before .before .before .if4 .left,
+  sym (c .before .before .refuses5 .ensures) ∙ c .before .if5 .left,
 )
 
 pub refusal-spec : {M : Type 1} → statement M
@@ -137,10 +98,7 @@ refusal-spec =
     refuses4-requires
     returns-4
     sized-requires
-    names-place-requires
-    from-8-requires
-    returns-5
     refuses5-requires
-    returns-6
+    returns-5
     from-6-requires
-    returns-7)
+    returns-6)
