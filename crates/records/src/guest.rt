@@ -45,8 +45,11 @@ fn is_cut(p: Page, first: u32, count: u32) -> bool
     ensures { λ r. ⌜ r ≡ isCut first count p ⌝ }
 {
     let guest = p.guest;
+    if guest < 2147483648 {
+        return false;
+    }
     let block = guest % 1048576 / 512 * 512;
-    (2147483648 <= guest) & !((first <= block) & (block + 512 <= first + count))
+    !((first <= block) & (block + 512 <= first + count))
 }
 
 pub fn look(
