@@ -1,5 +1,5 @@
 // 17 to 19: each guest page of a range means the lowest record that claims it. One pass over the table with the set of the guest pages seen, to
-// look; another, to write.
+// look; another, to write. Both end with the last guest page: a record after it that claims one is not the lowest.
 ghost use mathlib.Core.Path.{_≡_};
 ghost use mathlib.Core.Bool.{_&&_};
 ghost use Prim.Native.Nat.{_+_, _*_, _≤_};
@@ -65,7 +65,7 @@ pub fn look(
     ensures { λ r. ⌜ r ≡ guestLook (pagesOf (now (t .entry))) n slot first count kind (tvmOf fence) ⌝ }
 {
     let mut seen = [0u64; 64];
-    let mut found: u32 = 0;
+    let mut missing = count;
     let mut undone = false;
     let mut cut = false;
     let mut i = 0;
@@ -75,13 +75,16 @@ pub fn look(
             if p.kind != kind {
                 return Guests::Unready;
             }
-            found += 1;
             undone = undone | !tvm_done(fence, TvmVersion(p.version));
             cut = cut | is_cut(p, first, count);
+            missing -= 1;
+            if missing == 0 {
+                return Guests::Ready { undone, cut };
+            }
         }
         i += 1;
     }
-    if found == count {
+    if missing == 0 {
         Guests::Ready { undone, cut }
     } else {
         Guests::Unready
@@ -120,11 +123,16 @@ pub fn rewrite(t: &mut [u8], n: usize, slot: u8, first: u32, count: u32, kind: u
     ensures { λ _. ⌜ pagesOf (now (t .exit)) ≡ over (pagesOf (now (t .entry))) (isMeant (pagesOf (now (t .entry))) n slot first count) (λ i. becomes kind slot version (pagesOf (now (t .entry)) .page i)) ⌝ }
 {
     let mut seen = [0u64; 64];
+    let mut left = count;
     let mut i = 0;
     while i < n {
         let p = read(t, i);
         if is_first(&mut seen, p, slot, first, count) {
             write(t, i, moved(p, slot, kind, version));
+            left -= 1;
+            if left == 0 {
+                return;
+            }
         }
         i += 1;
     }
