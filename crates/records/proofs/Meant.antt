@@ -17,10 +17,7 @@ use Rattle.sets.proofs.PageSets.{member-with-in, member-none-in, count-with-in,
 use Rattle.rules.specs.declared.Page.{Page}
 use Rattle.rules.specs.Page.{Table, claims, isMapped, guestPage, meant, isMeant}
 use Rattle.records.specs.Passes.{claimsIn, isNew, noted}
-
-in-range : (first number i : ℕ) → within first number i ≡ true → (first ≤ i) × (i < first + number)
-in-range first number i e =
-    (leb-true first i (and-left (leb first i) (ltb i (first + number)) e), ltb-true i (first + number) (and-right (leb first i) (ltb i (first + number)) e))
+use Rattle.records.proofs.Tests.{in-range}
 
 pub claimed-in : (slot first number : ℕ) (p : Page) → claimsIn slot first number p ≡ true → (first ≤ guestPage p) × (guestPage p - first < number)
 claimed-in slot first number p c =

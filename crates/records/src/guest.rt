@@ -11,6 +11,7 @@ ghost use Rattle.records.specs.Passes.{isNew, noted, guestLook, becomes,
 use super::record::read;
 use super::record::write;
 use super::table::claims_in;
+use super::table::offset;
 use fences::TvmTracker;
 use fences::TvmVersion;
 use fences::tvm_done;
@@ -31,8 +32,7 @@ fn is_first(seen: &mut [u64; 64], p: Page, slot: u8, first: u32, count: u32) -> 
     if !claims_in(p, slot, first, count) {
         return false;
     }
-    let g = p.guest % 1048576;
-    let d = (g - first) as usize;
+    let d = offset(p.guest, first) as usize;
     if sets::pages::has(&*seen, d) {
         return false;
     }
