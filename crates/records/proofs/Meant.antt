@@ -8,7 +8,9 @@ use native.Mathlib.Omega.{arith}
 use lib.Dec.{leb, ltb, eqb}
 use lib.ListN.{length, replicate, length-replicate}
 use borrow.Author.Tests.{eqb-true, eq-eqb, ne-eqb, ltb-true, lt-ltb, le-leb, leb-true, not-true, not-false}
+use lib.Seq.{set-getD}
 use Rattle.sets.specs.Terms.{within}
+use Rattle.sets.specs.Set.{with}
 use Rattle.sets.specs.Look.{any, all, count, lowest}
 use Rattle.sets.specs.Pages.{memberIn, withIn}
 use Rattle.sets.proofs.Bools.{by-test, iff, and-left, and-right, and-off, or-false}
@@ -23,6 +25,11 @@ pub claimed-in : (slot first number : ℕ) (p : Page) → claimsIn slot first nu
 claimed-in slot first number p c =
     let w = in-range first number (guestPage p) (and-right (isMapped p && eqb (p .slot) slot) (within first number (guestPage p)) c) in
     (w .0, omega (arith, w .0, w .1))
+
+-- a number that is there already
+pub with-again : (w d : ℕ) (xs : List ℕ) → memberIn w d xs ≡ true → withIn w xs d ≡ xs
+unfolding memberIn withIn with
+with-again w d xs e = rw e (set-getD xs (d / w) 0)
 
 -- how many of the guest pages of a range a set has
 abbrev pub tally : ℕ → List ℕ → ℕ

@@ -33,11 +33,9 @@ fn is_first(seen: &mut [u64; 64], p: Page, slot: u8, first: u32, count: u32) -> 
         return false;
     }
     let d = offset(p.guest, first) as usize;
-    if sets::pages::has(&*seen, d) {
-        return false;
-    }
+    let old = sets::pages::has(&*seen, d);
     sets::pages::insert(seen, d);
-    true
+    !old
 }
 
 fn is_cut(p: Page, first: u32, count: u32) -> bool

@@ -1,16 +1,18 @@
--- `records::guest::is_first` meets its contract: the tests say which case of `isNew` holds, and of `noted` with it.
+-- `records::guest::is_first` meets its contract: the tests say which case of `isNew` holds, and of `noted` with it; a page put a second time changes
+-- nothing.
 -- Assumes nothing.
-use Prim.Native.Nat.{_+_, _-_, _%_, _<_, _≤_}
-use mathlib.Core.Path.{_≡_, sym, _∙_}
-use mathlib.Core.Bool.{true, false, _&&_}
+use Prim.Native.Nat.{_-_, _<_}
+use mathlib.Core.Path.{_≡_, sym, ap, _∙_}
+use mathlib.Core.Bool.{true, not}
 use native.Mathlib.Omega.{arith}
-use lib.Dec.{eqb}
 use borrow.Author.Needs.{needs}
 use borrow.Author.Tests.{not-true, not-false}
+use Rattle.sets.specs.Pages.{memberIn}
+use Rattle.sets.proofs.Bools.{by-test}
 use Rattle.rules.specs.Page.{guestPage}
 use Rattle.records.specs.Passes.{claimsIn, isNew, noted}
 use Rattle.records.proofs.Tests.{offset-is}
-use Rattle.records.proofs.Meant.{claimed-in}
+use Rattle.records.proofs.Meant.{claimed-in, with-again}
 use Rattle.records.proofs.guest.is_first.Statement.{statement}
 use Rattle.records.proofs.guest.is_first.Tie as tie
 
@@ -40,22 +42,18 @@ mine c =
 has-requires : tie.Need-has-requires
 has-requires c κs = let m = mine (c .before) in omega (arith, m .1, m .2)
 
+insert-requires : tie.Need-insert-requires
+insert-requires c κs = let m = mine (c .before .before .before) in omega (arith, m .1, m .2)
+
 returns-2 : tie.Need-returns-2
 unfolding isNew noted
 returns-2 c =
-    let m = mine (c .before .before .before) in
-    let e = sym (rw (m .1) at (c .before .has .ensures)) ∙ c .if2 .taken in
-    (rw (m .0, e), rw (m .0, e))
-
-insert-requires : tie.Need-insert-requires
-insert-requires c κs = let m = mine (c .before .before .before .before) in omega (arith, m .1, m .2)
-
-returns-3 : tie.Need-returns-3
-unfolding isNew noted
-returns-3 c =
-    let m = mine (c .before .before .before .before .before) in
-    let e = sym (rw (m .1) at (c .before .before .before .has .ensures)) ∙ c .before .before .if2 .left in
-    (rw (m .0, e), rw (m .0, e) (rw (m .1) at (c .insert .ensures)))
+    let x = c .before .before .before .before .before .before .before .args in
+    let m = mine (c .before .before .before .before) in
+    let d = guestPage (x .p) - x .first in
+    let old = rw (m .1) at (c .before .before .has .ensures) in
+    let put = rw (m .1) at (c .insert .ensures) in
+    (rw (m .0) (ap not old), rw (m .0) (by-test (memberIn 64 d (x .seen .now)) (λ e. rw e (put ∙ with-again 64 d (x .seen .now) e)) (λ e. rw e put)))
 
 pub is-first-spec : {M : Type 1} → statement M
 is-first-spec =
@@ -66,6 +64,5 @@ is-first-spec =
     offset-requires
     cast-d
     has-requires
-    returns-2
     insert-requires
-    returns-3)
+    returns-2)
