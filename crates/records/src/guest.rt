@@ -1,11 +1,12 @@
 // 17 to 19: each guest page of a range means the lowest record that claims it. One pass over the table with the set of the guest pages seen, to
 // look; another, to write. Both end with the last guest page: a record after it that claims one is not the lowest.
 ghost use mathlib.Core.Path.{_≡_};
-ghost use mathlib.Core.Bool.{_&&_};
+ghost use mathlib.Core.Bool.{_&&_, _||_, not};
 ghost use Prim.Native.Nat.{_+_, _*_, _≤_};
 ghost use lib.ListN.{length};
 ghost use Rattle.rules.specs.Page.{over, isMeant, isCut};
 ghost use Rattle.rules.specs.Encoding.{pagesOf};
+ghost use Rattle.rules.specs.Fence.{done};
 ghost use Rattle.fences.specs.Trackers.{tvmOf};
 ghost use Rattle.records.specs.Passes.{isNew, noted, guestLook, becomes, largeBit};
 use super::record::read;
@@ -50,6 +51,25 @@ fn is_cut(p: Page, first: u32, count: u32) -> bool
     !((first <= block) & (block + 512 <= first + count))
 }
 
+// Some version met so far is not done, or this one.
+fn with_undone(undone: bool, fence: TvmTracker, version: u16) -> bool
+    ensures { λ r. ⌜ r ≡ (undone || not (done (tvmOf fence) version)) ⌝ }
+{
+    if tvm_done(fence, TvmVersion(version)) {
+        undone
+    } else {
+        true
+    }
+}
+
+// Some large mapping met so far is cut, or this one.
+fn with_cut(cut: bool, p: Page, first: u32, count: u32) -> bool
+    requires { ⌜ first + count ≤ 1048576 ⌝ }
+    ensures { λ r. ⌜ r ≡ (cut || isCut first count p) ⌝ }
+{
+    if is_cut(p, first, count) { true } else { cut }
+}
+
 pub fn look(
     t: &[u8],
     n: usize,
@@ -73,8 +93,8 @@ pub fn look(
             if p.kind != kind {
                 return Guests::Unready;
             }
-            undone = undone | !tvm_done(fence, TvmVersion(p.version));
-            cut = cut | is_cut(p, first, count);
+            undone = with_undone(undone, fence, p.version);
+            cut = with_cut(cut, p, first, count);
             missing -= 1;
             if missing == 0 {
                 return Guests::Ready { undone, cut };

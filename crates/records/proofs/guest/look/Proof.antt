@@ -41,11 +41,11 @@ returns c =
     (c .before .before .before .before .before .before .loop-test .taken) (at .loop .inv) _ _ (c .before .before .before .before .before .read .ensures) (first .ensures .1)
     (sym (first .ensures .0) ∙ c .before .before .if1 .taken) (c .if2 .taken)
 
-tvm-done-requires : tie.Need-tvm-done-requires Inv-loop μ-loop
-tvm-done-requires c κs = search needs
+with-undone-requires : tie.Need-with-undone-requires Inv-loop μ-loop
+with-undone-requires c κs = search needs
 
-is-cut-requires : tie.Need-is-cut-requires Inv-loop μ-loop
-is-cut-requires c κs = search needs
+with-cut-requires : tie.Need-with-cut-requires Inv-loop μ-loop
+with-cut-requires c κs = search needs
 
 sub-missing : tie.Need-sub-missing Inv-loop μ-loop
 sub-missing c =
@@ -65,7 +65,7 @@ returns-2 c =
     looked-full (pagesOf (x .t .now)) (x .n) (x .slot) (x .first) (x .count) (x .kind) (tvmOf (x .fence)) _ _ _ _ _
     (turn-first (pagesOf (x .t .now)) (x .n) (x .slot) (x .first) (x .count) (x .kind) (tvmOf (x .fence)) (at .before .before .pre .2) (at .loop .i) (at .loop .seen) _ _ _ (c .before .before .before .before .before .before .before .before .before .loop-test .taken) (at .loop .inv) _ _ (c .before .before .before .before .before .before .before .before .read .ensures)
     (first .ensures .1) _ _ _ (sym (first .ensures .0) ∙ c .before .before .before .before .before .if1 .taken) (c .before .before .before .if2 .left) refl
-    (ap (λ (b : Bool). at .loop .undone || not b) (c .before .before .tvm-done .ensures)) (ap (λ (b : Bool). at .loop .cut || b) (c .before .is-cut .ensures)))
+    (c .before .before .with-undone .ensures) (c .before .with-cut .ensures))
     (c .if3 .taken)
 
 add-i : tie.Need-add-i Inv-loop μ-loop
@@ -84,7 +84,7 @@ loop-again c =
     let read = c .before .before .before .read .ensures in
     ⊎-elim
     (λ w. turn-first T (x .n) (x .slot) (x .first) (x .count) (x .kind) (tvmOf (x .fence)) (at .before .before .pre .2) (at .loop .i) (at .loop .seen) _ _ _ here (at .loop .inv) _ _ read
-    (first .ensures .1) _ _ _ (sym (first .ensures .0) ∙ w .0 .taken) (w .2 .left) (w .6) (w .7 ∙ ap (λ (b : Bool). at .loop .undone || not b) (w .3 .ensures)) (w .8 ∙ ap (λ (b : Bool). at .loop .cut || b) (w .4 .ensures)))
+    (first .ensures .1) _ _ _ (sym (first .ensures .0) ∙ w .0 .taken) (w .2 .left) (w .6) (w .7 ∙ w .3 .ensures) (w .8 ∙ w .4 .ensures))
     (λ w. turn-other T (x .n) (x .slot) (x .first) (x .count) (x .kind) (tvmOf (x .fence)) (at .before .before .pre .2) (at .loop .i) (at .loop .seen) _ _ _ here (at .loop .inv) _ _ read
     (first .ensures .1) _ _ _ (sym (first .ensures .0) ∙ w .0 .left) (w .1) (w .2) (w .3))
     (c .if1 .came)
@@ -108,8 +108,8 @@ look-spec =
     read-requires
     is-first-requires
     returns
-    tvm-done-requires
-    is-cut-requires
+    with-undone-requires
+    with-cut-requires
     sub-missing
     returns-2
     add-i
