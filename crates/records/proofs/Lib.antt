@@ -1,4 +1,5 @@
 pub mod Bytes
 pub mod GuestLook
 pub mod Meant
+pub mod Tests
 pub mod WritePass

@@ -8,24 +8,35 @@ use native.Mathlib.Omega.{arith}
 use lib.Dec.{leb, ltb, eqb}
 use lib.ListN.{length, replicate, length-replicate}
 use borrow.Author.Tests.{eqb-true, eq-eqb, ne-eqb, ltb-true, lt-ltb, le-leb, leb-true, not-true, not-false}
+use lib.Seq.{set-getD}
 use Rattle.sets.specs.Terms.{within}
+use Rattle.sets.specs.Set.{with}
 use Rattle.sets.specs.Look.{any, all, count, lowest}
 use Rattle.sets.specs.Pages.{memberIn, withIn}
 use Rattle.sets.proofs.Bools.{by-test, iff, and-left, and-right, and-off, or-false}
-use Rattle.sets.proofs.Looks.{any-next, any-one, any-hit, any-ext, any-at, not-all, count-none, count-all, lowest-is, lowest-true, lowest-any}
+use Rattle.sets.proofs.Looks.{any-next, any-one, any-hit, any-ext, any-at, all-at, not-all, count-none, count-le, count-all, lowest-is, lowest-true, lowest-first, lowest-any}
 use Rattle.sets.proofs.PageSets.{member-with-in, member-none-in, count-with-in, length-with-in}
 use Rattle.rules.specs.declared.Page.{Page}
 use Rattle.rules.specs.Page.{Table, claims, isMapped, guestPage, meant, isMeant}
 use Rattle.records.specs.Passes.{claimsIn, isNew, noted}
-
-in-range : (first number i : ℕ) → within first number i ≡ true → (first ≤ i) × (i < first + number)
-in-range first number i e =
-    (leb-true first i (and-left (leb first i) (ltb i (first + number)) e), ltb-true i (first + number) (and-right (leb first i) (ltb i (first + number)) e))
+use Rattle.records.proofs.Tests.{in-range}
 
 pub claimed-in : (slot first number : ℕ) (p : Page) → claimsIn slot first number p ≡ true → (first ≤ guestPage p) × (guestPage p - first < number)
 claimed-in slot first number p c =
     let w = in-range first number (guestPage p) (and-right (isMapped p && eqb (p .slot) slot) (within first number (guestPage p)) c) in
     (w .0, omega (arith, w .0, w .1))
+
+-- a number that is there already
+pub with-again : (w d : ℕ) (xs : List ℕ) → memberIn w d xs ≡ true → withIn w xs d ≡ xs
+unfolding memberIn withIn with
+with-again w d xs e = rw e (set-getD xs (d / w) 0)
+
+-- how many of the guest pages of a range a set has
+abbrev pub tally : ℕ → List ℕ → ℕ
+tally number seen = count (λ d. memberIn 64 d seen) number
+
+pub tally-none : (number : ℕ) → tally number (replicate 64 0) ≡ 0
+tally-none number = count-none (λ d. memberIn 64 d (replicate 64 0)) number (λ d l. member-none-in 64 64 d)
 
 -- which of the guest pages a record claims
 claims-is : (slot first number d : ℕ) (p : Page) → d < number → claims slot (first + d) p ≡ (claimsIn slot first number p && eqb d (guestPage p - first))
@@ -125,12 +136,19 @@ module _ (t : Table) (slot first number : ℕ) where
     pub seen-next : (seen′ : List ℕ) → seen′ ≡ noted slot first number (t .page i) seen → Seen (i + 1) seen′
     seen-next seen′ e = rw e (by-test (isNew slot first number (t .page i) seen) seen-new seen-old)
 
-    pub count-new : isNew slot first number (t .page i) seen ≡ true
-        → count (λ d. memberIn 64 d (noted slot first number (t .page i) seen)) number ≡ count (λ d. memberIn 64 d seen) number + 1
+    pub tally-new : isNew slot first number (t .page i) seen ≡ true → tally number (noted slot first number (t .page i) seen) ≡ tally number seen + 1
     unfolding noted isNew p g
-    count-new e =
+    tally-new e =
         let c : claimsIn slot first number p ≡ true = and-left (claimsIn slot first number p) _ e in
         rw e (count-with-in 64 (g - first) number seen (own c .0) (omega (arith, own c .0, s .size)) (not-true _ (and-right (claimsIn slot first number p) _ e)))
+
+    pub tally-old : isNew slot first number (t .page i) seen ≡ false → tally number (noted slot first number (t .page i) seen) ≡ tally number seen
+    unfolding noted
+    tally-old e = rw e
+
+    -- a new one was not among those seen
+    pub room : isNew slot first number (t .page i) seen ≡ true → tally number seen < number
+    room e = omega (arith, tally-new e, count-le (λ d. memberIn 64 d (noted slot first number (t .page i) seen)) number)
 
 -- ---- what is meant
 module _ (t : Table) (n slot first number : ℕ) where
@@ -168,6 +186,22 @@ module _ (t : Table) (n slot first number : ℕ) where
       back e =
           let (d, l, q) = any-one (λ d. test (t .page (meant t n slot (first + d)))) number e in
           any-hit (λ j. isMeant t n slot first number j && test (t .page j)) (meant t n slot (first + d)) n (there d l) (rw (is-meant d l (there d l), q))
+
+  -- where as many were seen as the range has, each is claimed by a record passed, and no record to come is meant
+  module _ (i : ℕ) (seen : List ℕ) (s : Seen t slot first number i seen) (e : tally number seen ≡ number) where
+    pub all-claimed : (d : ℕ) → d < number → claimed t slot first number i d ≡ true
+    all-claimed d l =
+        sym (s .has d l) ∙ all-at (λ d. memberIn 64 d seen) number d (sym (count-all (λ d. memberIn 64 d seen) number) ∙ eq-eqb (tally number seen) number e) l
+
+    pub none-left : (j : ℕ) → i ≤ j → isMeant t n slot first number j ≡ false
+    unfolding meant
+    none-left j l =
+        by-test (isMeant t n slot first number j)
+        (λ m. let w = meant-at j m in
+        let d = guestPage (t .page j) - first in
+        let (k, b, q) = any-one (λ k. claims slot (first + d) (t .page k)) i (all-claimed d (w .1)) in
+        absurd (true≢false (sym q ∙ any-at (λ k. claims slot (first + d) (t .page k)) (lowest (λ k. claims slot (first + d) (t .page k)) n) k (lowest-first (λ k. claims slot (first + d) (t .page k)) n) (omega (arith, w .2)))))
+        (λ m. m)
 
   -- all are mapped exactly where as many as the range has were seen
   pub mapped-is : (d : ℕ) → ltb (meant t n slot (first + d)) n ≡ claimed t slot first number n d

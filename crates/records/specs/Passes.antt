@@ -1,5 +1,5 @@
 -- What the passes over records find and write, in the words of document 01's definitions.
-use Rattle.sets.specs.Terms.{ℕ, _+_, _-_, _*_, Bool, cond, not, _&&_, _||_, List, ltb, leb, eqb, within, put}
+use Rattle.sets.specs.Terms.{ℕ, _+_, _-_, _*_, _%_, Bool, cond, not, _&&_, _||_, List, ltb, leb, eqb, within, put}
 use Rattle.sets.specs.Look.{any}
 use Rattle.sets.specs.Pages.{memberIn, withIn}
 use Rattle.rules.specs.declared.Page.{Page}
@@ -32,6 +32,10 @@ abbrev pub stepped : Page → ℕ → ℕ → Page
 stepped p step i = page (p .kind) (p .slot) (p .version) (p .guest + step * i)
 
 -- ---- the records that a guest range means
+-- how far the page of a guest word is from `first`, counted round the 1,048,576 guest pages
+abbrev pub offsetOf : ℕ → ℕ → ℕ
+offsetOf guest first = (guest % 1048576 + 1048576 - first) % 1048576
+
 -- the record claims one of the `count` guest pages from `first` on
 abbrev pub claimsIn : ℕ → ℕ → ℕ → Page → Bool
 claimsIn slot first count p = isMapped p && eqb (p .slot) slot && within first count (guestPage p)

@@ -1,16 +1,18 @@
 // 17 to 19: each guest page of a range means the lowest record that claims it. One pass over the table with the set of the guest pages seen, to
-// look; another, to write.
+// look; another, to write. Both end with the last guest page: a record after it that claims one is not the lowest.
 ghost use mathlib.Core.Path.{_≡_};
-ghost use mathlib.Core.Bool.{_&&_};
+ghost use mathlib.Core.Bool.{_&&_, _||_, not};
 ghost use Prim.Native.Nat.{_+_, _*_, _≤_};
 ghost use lib.ListN.{length};
 ghost use Rattle.rules.specs.Page.{over, isMeant, isCut};
 ghost use Rattle.rules.specs.Encoding.{pagesOf};
+ghost use Rattle.rules.specs.Fence.{done};
 ghost use Rattle.fences.specs.Trackers.{tvmOf};
 ghost use Rattle.records.specs.Passes.{isNew, noted, guestLook, becomes, largeBit};
 use super::record::read;
 use super::record::write;
 use super::table::claims_in;
+use super::table::offset;
 use fences::TvmTracker;
 use fences::TvmVersion;
 use fences::tvm_done;
@@ -31,13 +33,10 @@ fn is_first(seen: &mut [u64; 64], p: Page, slot: u8, first: u32, count: u32) -> 
     if !claims_in(p, slot, first, count) {
         return false;
     }
-    let g = p.guest % 1048576;
-    let d = (g - first) as usize;
-    if sets::pages::has(&*seen, d) {
-        return false;
-    }
+    let d = offset(p.guest, first) as usize;
+    let old = sets::pages::has(&*seen, d);
     sets::pages::insert(seen, d);
-    true
+    !old
 }
 
 fn is_cut(p: Page, first: u32, count: u32) -> bool
@@ -45,8 +44,30 @@ fn is_cut(p: Page, first: u32, count: u32) -> bool
     ensures { λ r. ⌜ r ≡ isCut first count p ⌝ }
 {
     let guest = p.guest;
+    if guest < 2147483648 {
+        return false;
+    }
     let block = guest % 1048576 / 512 * 512;
-    (2147483648 <= guest) & !((first <= block) & (block + 512 <= first + count))
+    !((first <= block) & (block + 512 <= first + count))
+}
+
+// Some version met so far is not done, or this one.
+fn with_undone(undone: bool, fence: TvmTracker, version: u16) -> bool
+    ensures { λ r. ⌜ r ≡ (undone || not (done (tvmOf fence) version)) ⌝ }
+{
+    if tvm_done(fence, TvmVersion(version)) {
+        undone
+    } else {
+        true
+    }
+}
+
+// Some large mapping met so far is cut, or this one.
+fn with_cut(cut: bool, p: Page, first: u32, count: u32) -> bool
+    requires { ⌜ first + count ≤ 1048576 ⌝ }
+    ensures { λ r. ⌜ r ≡ (cut || isCut first count p) ⌝ }
+{
+    if is_cut(p, first, count) { true } else { cut }
 }
 
 pub fn look(
@@ -62,7 +83,7 @@ pub fn look(
     ensures { λ r. ⌜ r ≡ guestLook (pagesOf (now (t .entry))) n slot first count kind (tvmOf fence) ⌝ }
 {
     let mut seen = [0u64; 64];
-    let mut found: u32 = 0;
+    let mut missing = count;
     let mut undone = false;
     let mut cut = false;
     let mut i = 0;
@@ -72,13 +93,16 @@ pub fn look(
             if p.kind != kind {
                 return Guests::Unready;
             }
-            found += 1;
-            undone = undone | !tvm_done(fence, TvmVersion(p.version));
-            cut = cut | is_cut(p, first, count);
+            undone = with_undone(undone, fence, p.version);
+            cut = with_cut(cut, p, first, count);
+            missing -= 1;
+            if missing == 0 {
+                return Guests::Ready { undone, cut };
+            }
         }
         i += 1;
     }
-    if found == count {
+    if missing == 0 {
         Guests::Ready { undone, cut }
     } else {
         Guests::Unready
@@ -117,11 +141,16 @@ pub fn rewrite(t: &mut [u8], n: usize, slot: u8, first: u32, count: u32, kind: u
     ensures { λ _. ⌜ pagesOf (now (t .exit)) ≡ over (pagesOf (now (t .entry))) (isMeant (pagesOf (now (t .entry))) n slot first count) (λ i. becomes kind slot version (pagesOf (now (t .entry)) .page i)) ⌝ }
 {
     let mut seen = [0u64; 64];
+    let mut left = count;
     let mut i = 0;
     while i < n {
         let p = read(t, i);
         if is_first(&mut seen, p, slot, first, count) {
             write(t, i, moved(p, slot, kind, version));
+            left -= 1;
+            if left == 0 {
+                return;
+            }
         }
         i += 1;
     }

@@ -36,8 +36,12 @@ fn is_wanted(host: bool, kind: u8) -> bool
 fn is_unfinished(p: Page, fence: GlobalTracker) -> bool
     ensures { λ r. ⌜ r ≡ unfinished (globalOf fence) p ⌝ }
 {
-    let done = global_done(fence, GlobalVersion(p.version));
-    (p.kind == 1) & !done
+    let kind = p.kind;
+    if kind == 1 {
+        !global_done(fence, GlobalVersion(p.version))
+    } else {
+        false
+    }
 }
 
 pub fn look(t: &[u8], first: usize, count: usize, host: bool, fence: GlobalTracker) -> Found

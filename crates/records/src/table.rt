@@ -7,20 +7,33 @@ ghost use lib.ListN.{length};
 ghost use Rattle.sets.specs.Look.{any};
 ghost use Rattle.rules.specs.Page.{over, page, meant, isGiven};
 ghost use Rattle.rules.specs.Encoding.{pagesOf};
-ghost use Rattle.records.specs.Passes.{claimsIn};
+ghost use Rattle.records.specs.Passes.{claimsIn, offsetOf};
 use super::record::read;
 use super::record::write;
 use rules::Page;
 
-// The record claims one of the `count` guest pages of the slot from `first` on.
+// How far a guest page is from `first`, round the end of the guest pages where it is before it: so one test tells whether it is in a range.
+pub fn offset(guest: u32, first: u32) -> u32
+    requires { ⌜ first ≤ 1048576 ⌝ }
+    ensures { λ r. ⌜ r ≡ offsetOf guest first ⌝ }
+{
+    (guest % 1048576 + 1048576 - first) % 1048576
+}
+
+// The record claims one of the `count` guest pages of the slot from `first` on. Most records fail one of the first two tests.
 pub fn claims_in(p: Page, slot: u8, first: u32, count: u32) -> bool
     requires { ⌜ first + count ≤ 1048576 ⌝ }
     ensures { λ r. ⌜ r ≡ claimsIn slot first count p ⌝ }
 {
     let kind = p.kind;
+    if kind < 7 {
+        return false;
+    }
+    if count <= offset(p.guest, first) {
+        return false;
+    }
     let own = p.slot;
-    let g = p.guest % 1048576;
-    ((kind == 7) | (kind == 8)) & (own == slot) & ((first <= g) & (g < first + count))
+    (kind <= 8) & (own == slot)
 }
 
 // Some guest page of the range is mapped.
