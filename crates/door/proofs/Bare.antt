@@ -10,10 +10,10 @@ use Rattle.sets.proofs.Bools.{by-test}
 use Rattle.sets.proofs.OneOf.{one-off}
 use Rattle.rules.specs.declared.Call.{Call}
 use Rattle.rules.specs.declared.Role.{Role}
-use Rattle.rules.specs.declared.Role.the-variants.{Vcpu, UnitCount, UnitType, ByteLength, HartCount, PageCount}
+use Rattle.rules.specs.declared.Role.the-variants.{Vcpu, HartCount}
 use Rattle.rules.specs.Page.{Table}
 use Rattle.rules.specs.Ledger.{Ledger}
-use Rattle.rules.specs.Calls.{entryOf, names, unnamed, opens, size}
+use Rattle.rules.specs.Calls.{entryOf, names, size}
 use Rattle.rules.specs.Refusals.{refuses4}
 use Rattle.rules.proofs.CallTable.{isNamed, named-at}
 use Rattle.door.specs.Asked.{more, namesMore}

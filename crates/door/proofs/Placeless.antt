@@ -1,7 +1,7 @@
 -- Refusals 5, 6, 7 and 14 are about pages: of a call that names no address none of them holds.
 -- Assumes nothing.
-use mathlib.Core.Path.{_≡_, refl, sym, _∙_}
-use mathlib.Core.Bool.{true, false, _||_, true≢false}
+use mathlib.Core.Path.{_≡_, sym, _∙_}
+use mathlib.Core.Bool.{false, _||_, true≢false}
 use lib.Dec.{eqb}
 use Rattle.sets.specs.Terms.{oneOf, oneFrom}
 use Rattle.sets.proofs.Bools.{by-test, or-left, or-right}

@@ -1,8 +1,6 @@
-// Refusals 1 to 4: by `&` only, and they look at no record.
+// Refusals 1 to 4, which look at no record.
 ghost use mathlib.Core.Path.{_≡_};
-ghost use mathlib.Core.Bool.{_&&_};
 ghost use Prim.Native.Nat.{_<_};
-ghost use lib.Dec.{eqb, ltb};
 ghost use lib.ListN.{getD, length};
 ghost use Rattle.sets.specs.Set.{member};
 ghost use Rattle.rules.specs.Page.{fits as fitsTable};

@@ -1,7 +1,7 @@
 // 17 to 19: each guest page of a range means the lowest record that claims it. One pass over the table with the set of the guest pages seen, to
 // look; another, to write. Both end with the last guest page: a record after it that claims one is not the lowest.
 ghost use mathlib.Core.Path.{_≡_};
-ghost use mathlib.Core.Bool.{_&&_, _||_, not};
+ghost use mathlib.Core.Bool.{_||_, not};
 ghost use Prim.Native.Nat.{_+_, _*_, _≤_};
 ghost use lib.ListN.{length};
 ghost use Rattle.rules.specs.Page.{over, isMeant, isCut};

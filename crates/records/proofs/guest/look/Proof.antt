@@ -1,17 +1,12 @@
 -- `records::guest::look` meets its contract: the invariant is `Looked`, and each way through a turn is one of its laws.
 -- Assumes nothing.
-use Prim.Native.Nat.{_≤_, _-_, _+_, _^_, _<_}
-use mathlib.Core.Path.{_≡_, refl, sym, _∙_, ap}
+use Prim.Native.Nat.{_-_, _<_}
+use mathlib.Core.Path.{_≡_, refl, sym, _∙_}
 use mathlib.Core.Logic.{⊎-elim}
-use mathlib.Core.Bool.{Bool, not, _||_}
 use native.Mathlib.Omega.{arith}
-use lib.Dec.{eqb}
 use borrow.Author.Needs.{needs}
-use borrow.Author.Tests.{eq-eqb, ne-eqb}
-use Rattle.rules.specs.declared.Page.{Page}
 use Rattle.rules.specs.Encoding.{pagesOf}
 use Rattle.fences.specs.Trackers.{tvmOf}
-use Rattle.records.specs.Passes.{isNew, noted}
 use Rattle.records.proofs.GuestLook.{Looked, looked-none, turn-first, turn-other, turn-room, turn-bad, looked-short, looked-full}
 use Rattle.records.proofs.guest.look.Statement.{statement}
 use Rattle.records.proofs.guest.look.Tie as tie
