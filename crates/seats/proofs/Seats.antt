@@ -29,15 +29,16 @@ far-outside ws true k v j h = rw (le-ltb j 8 h)
 far-outside ws false k v j h = rw (le-ltb j 8 h)
 
 -- ---- conditions of one call, by its number
-module _ (n : ℕ) (a b : Bool) where
-  pub at-5 : n ≡ 5 → a ≡ (eqb n 5 && a || eqb n 9 && b)
-  at-5 e = rw e (sym (or-false a))
+-- the conditions of two calls, k and j
+module _ (k j n : ℕ) (a b : Bool) where
+  pub at-first : eqb k k ≡ true → eqb k j ≡ false → n ≡ k → a ≡ (eqb n k && a || eqb n j && b)
+  at-first s d e = rw (e, s, d) (sym (or-false a))
 
-  pub at-9 : n ≡ 9 → b ≡ (eqb n 5 && a || eqb n 9 && b)
-  at-9 e = rw e
+  pub at-second : eqb j j ≡ true → eqb j k ≡ false → n ≡ j → b ≡ (eqb n k && a || eqb n j && b)
+  at-second s d e = rw (e, s, d)
 
-  pub at-neither : (n ≡ 5 → ⊥) → (n ≡ 9 → ⊥) → false ≡ (eqb n 5 && a || eqb n 9 && b)
-  at-neither n5 n9 = rw (ne-eqb n 5 n5, ne-eqb n 9 n9)
+  pub at-neither : (n ≡ k → ⊥) → (n ≡ j → ⊥) → false ≡ (eqb n k && a || eqb n j && b)
+  at-neither nk nj = rw (ne-eqb n k nk, ne-eqb n j nj)
 
 module _ (n : ℕ) (a b d : Bool) where
   pub at-14 : n ≡ 14 → a ≡ (eqb n 14 && a || eqb n 15 && b || eqb n 8 && d)

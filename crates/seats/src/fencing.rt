@@ -18,16 +18,22 @@ pub fn refuses8(l: &[u32; 426], t: &[u8], q: Call, a: &[u64; 12]) -> bool
     requires { ⌜ Asked q (now a) ⌝ }
     ensures { λ r. ⌜ r ≡ n.refuses8 (view (now (l .entry))) (pagesOf (now (t .entry))) q ⌝ }
 {
-    let g = parts::global(l);
-    let f = parts::fence(l, a[TVM]);
-    ((q.number == 3) & is_awaited(g.awaited)) | ((q.number == 16) & is_awaited(f.awaited))
+    let number = q.number;
+    match number {
+        3 => is_awaited(parts::global(l).awaited),
+        16 => is_awaited(parts::fence(l, a[TVM]).awaited),
+        _ => false,
+    }
 }
 
 pub fn refuses13(l: &[u32; 426], t: &[u8], q: Call, a: &[u64; 12]) -> bool
     requires { ⌜ Asked q (now a) ⌝ }
     ensures { λ r. ⌜ r ≡ n.refuses13 (view (now (l .entry))) (pagesOf (now (t .entry))) q ⌝ }
 {
-    let g = parts::global(l);
-    let f = parts::fence(l, a[TVM]);
-    ((q.number == 3) & (65535 <= g.version.0)) | ((q.number == 16) & (65534 <= f.version.0))
+    let number = q.number;
+    match number {
+        3 => 65535 <= parts::global(l).version.0,
+        16 => 65534 <= parts::fence(l, a[TVM]).version.0,
+        _ => false,
+    }
 }

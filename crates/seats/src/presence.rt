@@ -79,6 +79,8 @@ pub fn refuses12(l: &[u32; 426], t: &[u8], q: Call, a: &[u64; 12]) -> bool
 pub fn refuses15(l: &[u32; 426], t: &[u8], q: Call) -> bool
     ensures { λ r. ⌜ r ≡ n.refuses15 (view (now (l .entry))) (pagesOf (now (t .entry))) q ⌝ }
 {
-    let outside = is_outside(l, q.hart);
-    (q.number == 32) & outside
+    if q.number == 32 {
+        return is_outside(l, q.hart);
+    }
+    false
 }

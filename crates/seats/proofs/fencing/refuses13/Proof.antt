@@ -1,13 +1,11 @@
-use Prim.Native.Nat.{ℕ}
-use mathlib.Core.Path.{_≡_, _∙_, ap}
-use mathlib.Core.Bool.{_&&_, _||_}
-use lib.Dec.{leb, eqb}
+use mathlib.Core.Path.{refl, _∙_, ap}
+use lib.Dec.{leb}
 use borrow.Author.Needs.{needs}
 use Rattle.rules.specs.declared.Role.the-variants.{Tvm}
 use Rattle.rules.specs.Calls.{arg}
 use Rattle.rules.specs.Refusals.{refuses13}
 use Rattle.rules.specs.Encoding.{view}
-use Rattle.fences.specs.Trackers.{tvmOf}
+use Rattle.seats.proofs.Seats.{at-first, at-second, at-neither}
 use Rattle.seats.proofs.fencing.refuses13.Statement.{statement}
 use Rattle.seats.proofs.fencing.refuses13.Tie as tie
 
@@ -23,12 +21,22 @@ fence-requires c κs = search needs
 returns : tie.Need-returns
 unfolding refuses13
 returns c =
-    let f = c .before .before .before .before in
-    let g = f .before .before in
-    let s = g .before .before in
+    let s = c .before .before .before .before in
     let l = view (s .args .l .now) in
-    let of-slot : tvmOf (f .fence .result) ≡ l .slot (arg Tvm (s .args .q)) .fence = f .fence .ensures ∙ ap (λ (k : ℕ). l .slot k .fence) (s .pre .value Tvm) in
-    λ i. eqb (s .args .q .number) 3 && leb 65535 (g .global .ensures i .version) || eqb (s .args .q .number) 16 && leb 65534 (of-slot i .version)
+    (λ i. leb 65535 (c .before .global .ensures i .version)) ∙ at-first 3 16 (s .args .q .number) (leb 65535 (l .global .version)) _ refl refl (c .before .before .match .keys1)
+
+returns-2 : tie.Need-returns-2
+unfolding refuses13
+returns-2 c =
+    let s = c .before .before .before .before .before in
+    let l = view (s .args .l .now) in
+    (λ i. leb 65534 (c .before .fence .ensures i .version)) ∙ (λ i. leb 65534 (l .slot (s .pre .value Tvm i) .fence .version))
+    ∙ at-second 3 16 (s .args .q .number) _ (leb 65534 (l .slot (arg Tvm (s .args .q)) .fence .version)) refl refl (c .before .before .before .match .keys2)
+
+returns-3 : tie.Need-returns-3
+unfolding refuses13
+returns-3 c = at-neither 3 16 (c .before .before .args .q .number) _ _ (c .match .rest .0 .1) (c .match .rest .1)
 
 pub refuses13-spec : {M : Type 1} → statement M
-refuses13-spec = tie.close (tie.spec global-requires element-copy-out-fence fence-requires returns)
+refuses13-spec =
+    tie.close (tie.spec global-requires element-copy-out-fence fence-requires returns returns-2 returns-3)

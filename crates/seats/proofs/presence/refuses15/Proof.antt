@@ -1,6 +1,5 @@
-use mathlib.Core.Path.{ap}
-use mathlib.Core.Bool.{Bool, _&&_}
-use lib.Dec.{eqb}
+use mathlib.Core.Path.{_∙_}
+use borrow.Author.Tests.{eq-eqb, ne-eqb}
 use borrow.Author.Needs.{needs}
 use Rattle.rules.specs.Refusals.{refuses15}
 use Rattle.seats.proofs.presence.refuses15.Statement.{statement}
@@ -11,7 +10,11 @@ is-outside-requires c κs = search needs
 
 returns : tie.Need-returns
 unfolding refuses15
-returns c = ap (λ (b : Bool). eqb (c .before .before .before .args .q .number) 32 && b) (c .before .is-outside .ensures)
+returns c = c .is-outside .ensures ∙ rw (eq-eqb _ _ (c .before .if1 .taken))
+
+returns-2 : tie.Need-returns-2
+unfolding refuses15
+returns-2 c = rw (ne-eqb _ _ (c .if1 .left))
 
 pub refuses15-spec : {M : Type 1} → statement M
-refuses15-spec = tie.close (tie.spec is-outside-requires returns)
+refuses15-spec = tie.close (tie.spec is-outside-requires returns returns-2)
