@@ -1,21 +1,9 @@
-# What board/build, board/test and board/measure share. They stand at the top of the repository when they read this.
+# What the scripts of board/ share. They stand at the top of the repository when they read this.
 # shellcheck shell=bash disable=SC2034
 . tests/lib.sh
 out=$PWD/target/board
 firmware=$out/libroadbellow.a
 linux=$out/libroadbellow-linux.a
-
-fail() {
-    echo "board/${0##*/}: $*" >&2
-    exit 1
-}
-
-# quietly LOG COMMAND...: what it says is shown where it fails.
-quietly() {
-    local log=$out/$1
-    shift
-    "$@" >"$log" 2>&1 || { cat "$log" >&2; fail "failed: $*"; }
-}
 
 # The kit has one toolchain for each sort of machine that it runs on.
 command -v rt >/dev/null || fail "the Rattle kit (rt) is not here"

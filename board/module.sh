@@ -52,5 +52,5 @@ compile() {
         esac
     done <"$kept/words"
     "$tools/bin/clang" "${words[@]}" 2>"$out/clang.log" || { cat "$out/clang.log" >&2; fail "the module does not compile for $target"; }
-    ! grep -v "^'x86-64' is not a recognized processor for this target (ignoring processor)$" "$out/clang.log" || fail "clang says more than it should"
+    ! grep -v "^'x86-64' is not a recognized processor for this target (ignoring processor)$" "$out/clang.log" >&2 || fail "clang says more than it should"
 }

@@ -1,4 +1,4 @@
--- Refusal 4 of a call that names at most a tvm: only the hart can be out of range.
+-- Refusal 4 of a call that names nothing that it looks at: only the hart can be out of range.
 -- Assumes nothing.
 use Prim.Native.Nat.{ℕ}
 use mathlib.Core.Path.{_≡_, refl, sym, _∙_}
@@ -16,7 +16,7 @@ use Rattle.rules.specs.Ledger.{Ledger}
 use Rattle.rules.specs.Calls.{entryOf, names, size}
 use Rattle.rules.specs.Refusals.{refuses4}
 use Rattle.rules.proofs.CallTable.{isNamed, named-at}
-use Rattle.door.specs.Asked.{more, namesMore}
+use Rattle.door.specs.Asked.{for4, namesFor4}
 
 -- a call that does not name the role is not one that does
 not-there : (n : ℕ) (r : Role) (c : Call) → isNamed r (entryOf n) ≡ true → names r c ≡ false → eqb (c .number) n ≡ false
@@ -26,14 +26,14 @@ and-no : (a : Bool) → (a && false) ≡ false
 and-no true = refl
 and-no false = refl
 
-module _ (l : Ledger) (t : Table) (c : Call) (e : namesMore c ≡ false) where
+module _ (l : Ledger) (t : Table) (c : Call) (e : namesFor4 c ≡ false) where
   short : (not (eqb (c .number) 9) && ltb 4096 (size c)) ≡ false
   unfolding size
-  short = rw (one-off (more c) e 4, one-off (more c) e 2) (and-no (not (eqb (c .number) 9)))
+  short = rw (one-off (for4 c) e 4, one-off (for4 c) e 2) (and-no (not (eqb (c .number) 9)))
 
   pub only-hart : refuses4 l t c ≡ leb (l .harts) (c .hart)
   unfolding refuses4 oneOf oneFrom entryOf
   only-hart =
       by-test (leb (l .harts) (c .hart))
-      (λ f. rw (not-there 33 HartCount c refl (one-off (more c) e 5), f))
-      (λ f. rw (not-there 33 HartCount c refl (one-off (more c) e 5), f, one-off (more c) e 0, one-off (more c) e 2, one-off (more c) e 3, short, one-off (more c) e 4, one-off (more c) e 1, not-there 15 Vcpu c refl (one-off (more c) e 1)))
+      (λ f. rw (not-there 33 HartCount c refl (one-off (for4 c) e 5), f))
+      (λ f. rw (not-there 33 HartCount c refl (one-off (for4 c) e 5), f, one-off (for4 c) e 0, one-off (for4 c) e 2, one-off (for4 c) e 3, short, one-off (for4 c) e 4, one-off (for4 c) e 1, not-there 15 Vcpu c refl (one-off (for4 c) e 1)))

@@ -26,12 +26,12 @@ rolesOf r0 r1 r2 r3 r4 r5 = with (with (with (with (with (with 0 r0) r1) r2) r3)
 abbrev pub longBy : Bool → Bool → ℕ → ℕ → ℕ → Bool
 longBy measured counted long count kind = cond measured (ltb 4096 (long / 4096)) (cond counted (ltb 4096 (count * cond (eqb kind 1) 512 1)) false)
 
--- what refusal 4 looks at beside the hart: an argument that is not named and not 0; those of these roles
-abbrev pub more : Call → List Bool
-more c = unnamed c ∷ names Vcpu c ∷ names UnitCount c ∷ names UnitType c ∷ names ByteLength c ∷ names HartCount c ∷ names PageCount c ∷ []
+-- what 4 looks at besides the hart: whether an argument that is not named is not 0, and whether arguments of these roles are named
+abbrev pub for4 : Call → List Bool
+for4 c = unnamed c ∷ names Vcpu c ∷ names UnitCount c ∷ names UnitType c ∷ names ByteLength c ∷ names HartCount c ∷ names PageCount c ∷ []
 
-abbrev pub namesMore : Call → Bool
-namesMore c = oneOf (more c)
+abbrev pub namesFor4 : Call → Bool
+namesFor4 c = oneOf (for4 c)
 
 pub record Asked (c : Call) (a : List ℕ) : Type 0 where
   pub size : length a ≡ 12

@@ -8,7 +8,7 @@ ghost use Rattle.rules.specs.Ledger.{isOpen};
 ghost use Rattle.rules.specs.Tables.{rowOf};
 ghost use Rattle.rules.specs.Refusals as n;
 ghost use Rattle.rules.specs.Encoding.{view, pagesOf};
-ghost use Rattle.door.specs.Asked.{Asked, longBy, namesMore};
+ghost use Rattle.door.specs.Asked.{Asked, longBy, namesFor4};
 use super::roles::COUNT;
 use super::roles::HARTS;
 use super::roles::LENGTH;
@@ -149,10 +149,10 @@ fn any_out_of_range(l: &[u32; 426], t: &[u8], q: Call, a: &[u64; 12]) -> bool
         | ((number == 33) & !(((1 <= pages) & (pages < 4097)) & sized))
 }
 
-// The call names an argument that 4 looks at, or one that is not named is not 0.
-fn names_more(q: Call, a: &[u64; 12]) -> bool
+// There is more for 4 to look at than the hart: an argument of one of these roles, or one that is not named and not 0.
+fn names_for_4(q: Call, a: &[u64; 12]) -> bool
     requires { ⌜ Asked q (now a) ⌝ }
-    ensures { λ r. ⌜ r ≡ namesMore q ⌝ }
+    ensures { λ r. ⌜ r ≡ namesFor4 q ⌝ }
 {
     names(a, 0)
         | names(a, VCPU)
@@ -163,13 +163,13 @@ fn names_more(q: Call, a: &[u64; 12]) -> bool
         | names(a, PAGES)
 }
 
-// Of a call that names at most a tvm only the hart can be out of range.
+// Of a call that names none of these only the hart can be out of range.
 pub fn refuses4(l: &[u32; 426], t: &[u8], q: Call, a: &[u64; 12]) -> bool
     requires { ⌜ Asked q (now a) ⌝ }
     ensures { λ r. ⌜ r ≡ n.refuses4 (view (now (l .entry))) (pagesOf (now (t .entry))) q ⌝ }
 {
     let hart = q.hart;
-    if names_more(q, a) {
+    if names_for_4(q, a) {
         return any_out_of_range(l, t, q, a);
     }
     sizes::harts(l) as u64 <= hart

@@ -1,4 +1,4 @@
--- What effects make of parts of the ledger.
+-- A place that holds no region.
 use Rattle.rules.specs.Ledger.{Region}
 
 abbrev pub noRegion : Region

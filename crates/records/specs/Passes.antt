@@ -32,7 +32,7 @@ abbrev pub stepped : Page → ℕ → ℕ → Page
 stepped p step i = page (p .kind) (p .slot) (p .version) (p .guest + step * i)
 
 -- ---- the records that a guest range means
--- how far the page of a guest word is from `first`, counted round the 1,048,576 guest pages
+-- how far the page of a guest word is after `first`, counting on from the last of the 1,048,576 guest pages to page 0
 abbrev pub offsetOf : ℕ → ℕ → ℕ
 offsetOf guest first = (guest % 1048576 + 1048576 - first) % 1048576
 

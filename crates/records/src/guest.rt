@@ -102,6 +102,7 @@ pub fn look(
         }
         i += 1;
     }
+    // A range of pages has returned by now where all were there.
     if missing == 0 {
         Guests::Ready { undone, cut }
     } else {

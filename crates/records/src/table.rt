@@ -12,7 +12,7 @@ use super::record::read;
 use super::record::write;
 use rules::Page;
 
-// How far a guest page is from `first`, round the end of the guest pages where it is before it: so one test tells whether it is in a range.
+// How far the page of a guest word is after `first`, counting on from the last guest page to page 0: so one test tells whether it is in a range.
 pub fn offset(guest: u32, first: u32) -> u32
     requires { ⌜ first ≤ 1048576 ⌝ }
     ensures { λ r. ⌜ r ≡ offsetOf guest first ⌝ }

@@ -18,7 +18,7 @@ takeable l k = eqb (l .slot k .phase) 0 && ltb (l .slot k .fence .version) 65534
 unfoldable pub taken : Ledger → ℕ
 taken l = lowest (takeable l) 16
 
--- place i of a slot's regions is free
+-- place i of a slot holds no region: a region has at least one page
 abbrev pub unused : Slot → ℕ → Bool
 unused s i = eqb (s .region i .pages) 0
 

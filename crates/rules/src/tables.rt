@@ -106,7 +106,7 @@ pub fn row(call: u64) -> u64
     }
 }
 
-// Hex digit i of a call's row, from 0 on the left.
+// Hex digit i of a call's row, from 0 on the left. Here and below `call` is there for the contract, which says whose row it is.
 fn digit(call: u64, row: u64, i: u64) -> u64
     requires { ⌜ (row ≡ rowOf call) × (i < 8) ⌝ }
     ensures { λ r. ⌜ r ≡ callDigit call i ⌝ }

@@ -3,8 +3,8 @@ use mathlib.Core.Bool.{_||_}
 use borrow.Author.Needs.{needs}
 use Rattle.sets.specs.Terms.{oneOf, oneFrom}
 use Rattle.rules.specs.declared.Role.the-variants.{Vcpu, UnitCount, UnitType, ByteLength, HartCount, PageCount}
-use Rattle.door.proofs.early.names_more.Statement.{statement}
-use Rattle.door.proofs.early.names_more.Tie as tie
+use Rattle.door.proofs.early.names_for_4.Statement.{statement}
+use Rattle.door.proofs.early.names_for_4.Tie as tie
 
 names-requires : tie.Need-names-requires
 names-requires c κs = search needs
@@ -35,8 +35,8 @@ returns c =
     || (c .before .before .before .before .names3 .ensures ∙ a .named UnitCount) i || (c .before .before .before .names4 .ensures ∙ a .named UnitType) i
     || (c .before .before .names5 .ensures ∙ a .named ByteLength) i || (c .before .names6 .ensures ∙ a .named HartCount) i || (c .names7 .ensures ∙ a .named PageCount) i
 
-pub names-more-spec : {M : Type 1} → statement M
-names-more-spec =
+pub names-for-4-spec : {M : Type 1} → statement M
+names-for-4-spec =
     tie.close
     (tie.spec
     names-requires
