@@ -10,8 +10,10 @@
 mod callgrind;
 mod engine;
 mod measure;
+mod refusals;
 mod report;
 mod script;
+mod setup;
 mod workloads;
 
 use std::env;

@@ -42,7 +42,9 @@ fn lines<'w>(
     counts: &HashMap<String, u64>,
     times: &[Option<f64>],
 ) -> Result<Vec<Line<'w>>, String> {
-    let requests = *counts.get(NO_CALL).ok_or("callgrind has no count of a call that is not made")? as f64;
+    let requests = *counts
+        .get(NO_CALL)
+        .ok_or("callgrind has no count of a call that is not made")? as f64;
     rows(works)
         .enumerate()
         .map(|(index, (part, row))| {
