@@ -3,6 +3,7 @@ ghost use Rattle.ledger.specs.Settled.{callWith};
 ghost use Rattle.abi.specs.Replied.{Replied};
 use rules::tables::error_of;
 use rules::tables::value_of;
+use words::Words;
 
 // An answer in document 01's numbers.
 #[repr(C)]
@@ -13,7 +14,7 @@ pub struct Reply {
 
 #[no_mangle]
 pub extern "C" fn roadbellow_call(
-    ledger: &mut [u32; 426],
+    ledger: &mut Words,
     table: &mut [u8],
     number: u64,
     hart: u64,

@@ -19,6 +19,7 @@ use super::roles::VCPU;
 use rules::Call;
 use rules::tables::is_lawful;
 use rules::tables::is_unknown;
+use words::Words;
 use words::parts;
 use words::sizes;
 
@@ -30,14 +31,14 @@ pub fn names(a: &[u64; 12], role: usize) -> bool
     sets::word::has(a[0], role)
 }
 
-pub fn refuses1(l: &[u32; 426], t: &[u8], q: Call, row: u64) -> bool
+pub fn refuses1(l: &Words, t: &[u8], q: Call, row: u64) -> bool
     requires { ⌜ row ≡ rowOf (q .number) ⌝ }
     ensures { λ r. ⌜ r ≡ n.refuses1 (view (now (l .entry))) (pagesOf (now (t .entry))) q ⌝ }
 {
     is_unknown(q.number, row)
 }
 
-pub fn refuses2(l: &[u32; 426], t: &[u8], q: Call, a: &[u64; 12]) -> bool
+pub fn refuses2(l: &Words, t: &[u8], q: Call, a: &[u64; 12]) -> bool
     requires { ⌜ Asked q (now a) ⌝ }
     ensures { λ r. ⌜ r ≡ n.refuses2 (view (now (l .entry))) (pagesOf (now (t .entry))) q ⌝ }
 {
@@ -47,7 +48,7 @@ pub fn refuses2(l: &[u32; 426], t: &[u8], q: Call, a: &[u64; 12]) -> bool
     named & ((15 < tvm) | (phase == 0))
 }
 
-fn is_open(l: &[u32; 426]) -> bool
+fn is_open(l: &Words) -> bool
     ensures { λ r. ⌜ r ≡ isOpen (view (now (l .entry))) ⌝ }
 {
     let harts = sizes::harts(l);
@@ -68,7 +69,7 @@ fn fits(t: &[u8], n: u64) -> bool
     (len / 8 == n) & (len % 8 == 0)
 }
 
-pub fn refuses3(l: &[u32; 426], t: &[u8], q: Call, a: &[u64; 12], row: u64) -> bool
+pub fn refuses3(l: &Words, t: &[u8], q: Call, a: &[u64; 12], row: u64) -> bool
     requires { ⌜ Asked q (now a) × (row ≡ rowOf (q .number)) ⌝ }
     ensures { λ r. ⌜ r ≡ n.refuses3 (view (now (l .entry))) (pagesOf (now (t .entry))) q ⌝ }
 {
@@ -103,7 +104,7 @@ fn is_long(measured: bool, counted: bool, length: u64, count: u64, kind: u64) ->
 }
 
 // The vCPU of the slot is made.
-pub fn is_made(l: &[u32; 426], k: u64, v: u64) -> bool
+pub fn is_made(l: &Words, k: u64, v: u64) -> bool
     ensures { λ r. ⌜ r ≡ view (now (l .entry)) .slot k .made v ⌝ }
 {
     let set = parts::made(l, k);
@@ -114,7 +115,7 @@ pub fn is_made(l: &[u32; 426], k: u64, v: u64) -> bool
     }
 }
 
-fn any_out_of_range(l: &[u32; 426], t: &[u8], q: Call, a: &[u64; 12]) -> bool
+fn any_out_of_range(l: &Words, t: &[u8], q: Call, a: &[u64; 12]) -> bool
     requires { ⌜ Asked q (now a) ⌝ }
     ensures { λ r. ⌜ r ≡ n.refuses4 (view (now (l .entry))) (pagesOf (now (t .entry))) q ⌝ }
 {
@@ -164,7 +165,7 @@ fn names_for_4(q: Call, a: &[u64; 12]) -> bool
 }
 
 // Of a call that names none of these only the hart can be out of range.
-pub fn refuses4(l: &[u32; 426], t: &[u8], q: Call, a: &[u64; 12]) -> bool
+pub fn refuses4(l: &Words, t: &[u8], q: Call, a: &[u64; 12]) -> bool
     requires { ⌜ Asked q (now a) ⌝ }
     ensures { λ r. ⌜ r ≡ n.refuses4 (view (now (l .entry))) (pagesOf (now (t .entry))) q ⌝ }
 {

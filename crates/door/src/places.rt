@@ -18,6 +18,7 @@ use super::roles::HOST;
 use super::roles::LENGTH;
 use super::roles::TYPE;
 use rules::Call;
+use words::Words;
 use words::sizes;
 
 // Where memory begins.
@@ -101,7 +102,7 @@ pub fn sized(q: Call, a: &[u64; 12]) -> u64
     pages_of(measured, counted, a[LENGTH], a[COUNT], a[TYPE])
 }
 
-fn any_misplaced(l: &[u32; 426], t: &[u8], q: Call, a: &[u64; 12], pages: u64) -> bool
+fn any_misplaced(l: &Words, t: &[u8], q: Call, a: &[u64; 12], pages: u64) -> bool
     requires { ⌜ Asked q (now a) × (pages ≡ size q) ⌝ }
     ensures { λ r. ⌜ r ≡ n.refuses5 (view (now (l .entry))) (pagesOf (now (t .entry))) q ⌝ }
 {
@@ -119,7 +120,7 @@ fn any_misplaced(l: &[u32; 426], t: &[u8], q: Call, a: &[u64; 12], pages: u64) -
         | (names(a, DIRECTORY) & in_directory(directory, free))
 }
 
-pub fn refuses5(l: &[u32; 426], t: &[u8], q: Call, a: &[u64; 12], pages: u64) -> bool
+pub fn refuses5(l: &Words, t: &[u8], q: Call, a: &[u64; 12], pages: u64) -> bool
     requires { ⌜ Asked q (now a) × (pages ≡ size q) ⌝ }
     ensures { λ r. ⌜ r ≡ n.refuses5 (view (now (l .entry))) (pagesOf (now (t .entry))) q ⌝ }
 {

@@ -8,11 +8,12 @@ ghost use Rattle.rules.specs.Fence.{strike};
 ghost use Rattle.rules.specs.Ledger.{withSlot, withHart, withFence, inside, outside, isOutside, slotOf, placeNumber, flushes};
 ghost use Rattle.rules.specs.Encoding.{view};
 use fences::lent;
+use words::Words;
 use words::parts;
 use words::parts::Place;
 
 // The value is 1 where the hart flushes.
-pub fn enter(l: &mut [u32; 426], h: u64, k: u64, v: u64) -> u64
+pub fn enter(l: &mut Words, h: u64, k: u64, v: u64) -> u64
     requires { ⌜ (h < 8) × (k < 16) × (v < 8) ⌝ }
     ensures { λ r. ⌜ (r ≡ cond (flushes (view (now (l .entry)) .hart h .mark k) (view (now (l .entry)) .slot k .fence .version)) 1 0) × (view (now (l .exit)) ≡ withHart h (record { place = inside k v; mark = store k (some (view (now (l .entry)) .slot k .fence .version)) (view (now (l .entry)) .hart h .mark) }) (view (now (l .entry)))) ⌝ }
 {
@@ -23,7 +24,7 @@ pub fn enter(l: &mut [u32; 426], h: u64, k: u64, v: u64) -> u64
 }
 
 // The hart is struck out of the slot's fence. (A place that no call writes may name a slot that there is not; it awaits nobody.)
-fn strike_out(l: &mut [u32; 426], k: u64, h: u64)
+fn strike_out(l: &mut Words, k: u64, h: u64)
     requires { ⌜ h < 8 ⌝ }
     ensures { λ _. ⌜ view (now (l .exit)) ≡ withSlot k (withFence (strike h (view (now (l .entry)) .slot k .fence)) (view (now (l .entry)) .slot k)) (view (now (l .entry))) ⌝ }
 {
@@ -34,7 +35,7 @@ fn strike_out(l: &mut [u32; 426], k: u64, h: u64)
 }
 
 // The value is where the hart was.
-pub fn leave(l: &mut [u32; 426], h: u64) -> u64
+pub fn leave(l: &mut Words, h: u64) -> u64
     requires { ⌜ (h < 8) × (isOutside (view (now l) .hart h .place) ≡ false) ⌝ }
     ensures { λ r. ⌜ (r ≡ placeNumber (view (now (l .entry)) .hart h .place)) × (view (now (l .exit)) ≡ withHart h (record { place = outside; mark = view (now (l .entry)) .hart h .mark }) (withSlot (slotOf (view (now (l .entry)) .hart h .place)) (withFence (strike h (view (now (l .entry)) .slot (slotOf (view (now (l .entry)) .hart h .place)) .fence)) (view (now (l .entry)) .slot (slotOf (view (now (l .entry)) .hart h .place)))) (view (now (l .entry))))) ⌝ }
 {

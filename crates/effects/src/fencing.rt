@@ -9,10 +9,11 @@ use fences::global_struck;
 use fences::how_many;
 use fences::lent;
 use seats::presence::there;
+use words::Words;
 use words::parts;
 use words::sizes;
 
-pub fn global_fence(l: &mut [u32; 426], hart: u64) -> u64
+pub fn global_fence(l: &mut Words, hart: u64) -> u64
     requires { ⌜ (hart < 8) × (view (now l) .harts ≤ 8) × (view (now l) .global .version < 65535) ⌝ }
     ensures { λ r. ⌜ (r ≡ number (othersOf (view (now (l .entry))) hart)) × (view (now (l .exit)) ≡ withGlobal (begin (othersOf (view (now (l .entry))) hart) (view (now (l .entry)) .global)) (view (now (l .entry)))) ⌝ }
 {
@@ -23,7 +24,7 @@ pub fn global_fence(l: &mut [u32; 426], hart: u64) -> u64
     how_many(others) as u64
 }
 
-pub fn local_fence(l: &mut [u32; 426], hart: u64) -> u64
+pub fn local_fence(l: &mut Words, hart: u64) -> u64
     requires { ⌜ hart < 8 ⌝ }
     ensures { λ r. ⌜ (r ≡ number (strike hart (view (now (l .entry)) .global) .awaited)) × (view (now (l .exit)) ≡ withGlobal (strike hart (view (now (l .entry)) .global)) (view (now (l .entry)))) ⌝ }
 {
@@ -33,7 +34,7 @@ pub fn local_fence(l: &mut [u32; 426], hart: u64) -> u64
     how_many(rest.awaited) as u64
 }
 
-pub fn tvm_fence(l: &mut [u32; 426], k: u64) -> u64
+pub fn tvm_fence(l: &mut Words, k: u64) -> u64
     requires { ⌜ (k < 16) × (view (now l) .slot k .fence .version < 65534) ⌝ }
     ensures { λ r. ⌜ (r ≡ number (insidersOf (view (now (l .entry))) k)) × (view (now (l .exit)) ≡ withSlot k (withFence (begin (insidersOf (view (now (l .entry))) k) (view (now (l .entry)) .slot k .fence)) (view (now (l .entry)) .slot k)) (view (now (l .entry)))) ⌝ }
 {

@@ -12,6 +12,7 @@ ghost use Rattle.records.specs.Passes.{stepped};
 use looks::sight::index_of;
 use records::range;
 use rules::Page;
+use words::Words;
 use words::parts;
 
 // The pages from an address on become p, its guest word `step` more from each to the next.
@@ -37,7 +38,7 @@ pub fn own(t: &mut [u8], base: u64, pages: u64, kind: u8, slot: u8)
 }
 
 // Every page becomes a converting one of the present global version.
-pub fn convert(l: &[u32; 426], t: &mut [u8], base: u64, pages: u64)
+pub fn convert(l: &Words, t: &mut [u8], base: u64, pages: u64)
     requires { ⌜ (memory ≤ base) × (8 * (index base + pages) ≤ length (now t)) × (pages ≤ 4096) ⌝ }
     ensures { λ _. ⌜ pagesOf (now (t .exit)) ≡ over (pagesOf (now (t .entry))) (within (index base) pages) (λ i. page 1 0 (view (now (l .entry)) .global .version) 0) ⌝ }
 {

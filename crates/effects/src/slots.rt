@@ -13,10 +13,11 @@ ghost use Rattle.effects.specs.Parts.{noRegion};
 use fences::TvmTracker;
 use fences::tvm_ended;
 use seats::room::unused;
+use words::Words;
 use words::parts;
 use words::parts::Region;
 
-fn clear_regions(l: &mut [u32; 426], k: u64)
+fn clear_regions(l: &mut Words, k: u64)
     requires { ⌜ k < 16 ⌝ }
     ensures { λ _. ⌜ view (now (l .exit)) ≡ withSlot k (slotWith (view (now (l .entry)) .slot k .phase) (view (now (l .entry)) .slot k .fence) (view (now (l .entry)) .slot k .made) (λ i. noRegion)) (view (now (l .entry))) ⌝ }
 {
@@ -28,7 +29,7 @@ fn clear_regions(l: &mut [u32; 426], k: u64)
 }
 
 // A slot of that phase and fence, with no vCPUs and no regions.
-fn bare(l: &mut [u32; 426], k: u64, phase: u32, t: TvmTracker)
+fn bare(l: &mut Words, k: u64, phase: u32, t: TvmTracker)
     requires { ⌜ k < 16 ⌝ }
     ensures { λ _. ⌜ view (now (l .exit)) ≡ withSlot k (bareWith phase (tvmOf t)) (view (now (l .entry))) ⌝ }
 {
@@ -38,7 +39,7 @@ fn bare(l: &mut [u32; 426], k: u64, phase: u32, t: TvmTracker)
 }
 
 // "Slot versions outlive TVMs": the fence stays as it is.
-pub fn create(l: &mut [u32; 426], k: u64)
+pub fn create(l: &mut Words, k: u64)
     requires { ⌜ k < 16 ⌝ }
     ensures { λ _. ⌜ view (now (l .exit)) ≡ withSlot k (bareWith 1 (view (now (l .entry)) .slot k .fence)) (view (now (l .entry))) ⌝ }
 {
@@ -46,7 +47,7 @@ pub fn create(l: &mut [u32; 426], k: u64)
     bare(l, k, 1, t);
 }
 
-pub fn destroy(l: &mut [u32; 426], k: u64)
+pub fn destroy(l: &mut Words, k: u64)
     requires { ⌜ k < 16 ⌝ }
     ensures { λ _. ⌜ view (now (l .exit)) ≡ withSlot k (destroyed (view (now (l .entry)) .slot k)) (view (now (l .entry))) ⌝ }
 {
@@ -55,7 +56,7 @@ pub fn destroy(l: &mut [u32; 426], k: u64)
 }
 
 // The region takes the lowest place that has none.
-pub fn add_region(l: &mut [u32; 426], k: u64, first: u64, pages: u64)
+pub fn add_region(l: &mut Words, k: u64, first: u64, pages: u64)
     requires { ⌜ (k < 16) × (first + pages ≤ 1048576) × (lowest (n.unused (view (now l) .slot k)) 8 < 8) ⌝ }
     ensures { λ _. ⌜ view (now (l .exit)) ≡ withSlot k (slotWith (view (now (l .entry)) .slot k .phase) (view (now (l .entry)) .slot k .fence) (view (now (l .entry)) .slot k .made) (store (lowest (n.unused (view (now (l .entry)) .slot k)) 8) (record { first = first; pages = pages }) (view (now (l .entry)) .slot k .region))) (view (now (l .entry))) ⌝ }
 {
@@ -67,7 +68,7 @@ pub fn add_region(l: &mut [u32; 426], k: u64, first: u64, pages: u64)
     parts::set_region(l, k, i, r);
 }
 
-pub fn make_vcpu(l: &mut [u32; 426], k: u64, v: u64)
+pub fn make_vcpu(l: &mut Words, k: u64, v: u64)
     requires { ⌜ (k < 16) × (v < 8) ⌝ }
     ensures { λ _. ⌜ view (now (l .exit)) ≡ withSlot k (slotWith (view (now (l .entry)) .slot k .phase) (view (now (l .entry)) .slot k .fence) (store v true (view (now (l .entry)) .slot k .made)) (view (now (l .entry)) .slot k .region)) (view (now (l .entry))) ⌝ }
 {

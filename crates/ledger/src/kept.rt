@@ -17,11 +17,12 @@ use effects::fencing;
 use effects::slots;
 use rules::Call;
 use seats::room::taken;
+use words::Words;
 use words::parts;
 use words::sizes;
 
 // The value is the slot.
-fn create(l: &mut [u32; 426]) -> u64
+fn create(l: &mut Words) -> u64
     requires { ⌜ n.taken (view (now l)) < 16 ⌝ }
     ensures { λ r. ⌜ (r ≡ n.taken (view (now (l .entry)))) × (view (now (l .exit)) ≡ withSlot (n.taken (view (now (l .entry)))) (bare 1 (view (now (l .entry)) .slot (n.taken (view (now (l .entry)))) .fence)) (view (now (l .entry)))) ⌝ }
 {
@@ -31,7 +32,7 @@ fn create(l: &mut [u32; 426]) -> u64
 }
 
 // 6, 8, 9, 14 and 33, whose value is 0 as where none is named; the other calls leave the ledger as it is.
-fn on_slots(l: &mut [u32; 426], q: Call, a: &[u64; 12], pages: u64) -> u64
+fn on_slots(l: &mut Words, q: Call, a: &[u64; 12], pages: u64) -> u64
     requires { ⌜ Lawful (view (now l)) q × Asked q (now a) × (pages ≡ size q) × InSlots q ⌝ }
     ensures { λ r. ⌜ Kept (view (now (l .entry))) q r (view (now (l .exit))) ⌝ }
 {
@@ -48,7 +49,7 @@ fn on_slots(l: &mut [u32; 426], q: Call, a: &[u64; 12], pages: u64) -> u64
     0
 }
 
-pub fn on_ledger(l: &mut [u32; 426], q: Call, a: &[u64; 12], pages: u64) -> u64
+pub fn on_ledger(l: &mut Words, q: Call, a: &[u64; 12], pages: u64) -> u64
     requires { ⌜ Lawful (view (now l)) q × Asked q (now a) × (pages ≡ size q) ⌝ }
     ensures { λ r. ⌜ Kept (view (now (l .entry))) q r (view (now (l .exit))) ⌝ }
 {

@@ -14,10 +14,11 @@ use rules::Answer;
 use rules::Call;
 use rules::tables::row;
 use table::on_table;
+use words::Words;
 use words::cells::known;
 
 // Whatever may refuse comes first and writes nothing; then the records, while the ledger is as the call found it; then the ledger.
-fn settle(l: &mut [u32; 426], t: &mut [u8], q: Call) -> Answer
+fn settle(l: &mut Words, t: &mut [u8], q: Call) -> Answer
     ensures { λ r. ⌜ Settled (view (now (l .entry))) (pagesOf (now (t .entry))) q r (view (now (l .exit))) (pagesOf (now (t .exit))) ⌝ }
 {
     let row = row(q.number);
@@ -47,7 +48,7 @@ fn known_bytes(t: &[u8]) -> usize
 
 // A call on the lent ledger and table: every call number, hart and argument, whatever the words and the bytes hold.
 pub fn call(
-    ledger: &mut [u32; 426],
+    ledger: &mut Words,
     table: &mut [u8],
     number: u64,
     hart: u64,

@@ -21,11 +21,12 @@ use records::guest;
 use records::table;
 use rules::Call;
 use seats::room::taken;
+use words::Words;
 use words::parts;
 use words::sizes;
 
 // 2, 5, 10, 14; and 11 and 12.
-fn on_free(l: &[u32; 426], t: &mut [u8], q: Call, a: &[u64; 12], pages: u64)
+fn on_free(l: &Words, t: &mut [u8], q: Call, a: &[u64; 12], pages: u64)
     requires { ⌜ Ready (now l) (now t) q (now a) pages × (namesRole FreeBase q ≡ true) ⌝ }
     ensures { λ _. ⌜ pagesOf (now (t .exit)) ≡ table (view (now (l .entry))) (pagesOf (now (t .entry))) q ⌝ }
 {
@@ -63,7 +64,7 @@ fn version_after(number: u64, version: u16) -> u16
 }
 
 // 17 to 19.
-fn on_guests(l: &[u32; 426], t: &mut [u8], q: Call, a: &[u64; 12], pages: u64)
+fn on_guests(l: &Words, t: &mut [u8], q: Call, a: &[u64; 12], pages: u64)
     requires { ⌜ Ready (now l) (now t) q (now a) pages × (moves q ≡ true) ⌝ }
     ensures { λ _. ⌜ pagesOf (now (t .exit)) ≡ table (view (now (l .entry))) (pagesOf (now (t .entry))) q ⌝ }
 {
@@ -83,7 +84,7 @@ fn on_guests(l: &[u32; 426], t: &mut [u8], q: Call, a: &[u64; 12], pages: u64)
     );
 }
 
-pub fn on_table(l: &[u32; 426], t: &mut [u8], q: Call, a: &[u64; 12], pages: u64)
+pub fn on_table(l: &Words, t: &mut [u8], q: Call, a: &[u64; 12], pages: u64)
     requires { ⌜ Ready (now l) (now t) q (now a) pages ⌝ }
     ensures { λ _. ⌜ pagesOf (now (t .exit)) ≡ table (view (now (l .entry))) (pagesOf (now (t .entry))) q ⌝ }
 {

@@ -16,6 +16,7 @@ use tape::record::Step;
 use tape::record::arg;
 use tape::record::args_at;
 use tape::record::call_of;
+use words::Words;
 
 // What the record at an offset is answered.
 fn answered(
@@ -23,7 +24,7 @@ fn answered(
     at: usize,
     call: u8,
     hart: u8,
-    ledger: &mut [u32; 426],
+    ledger: &mut Words,
     table: &mut [u8],
 ) -> Answer
     ensures { λ r. ⌜ Called (now (ledger .entry)) (now (table .entry)) (callOf call hart (argsAt (now (tape .entry)) at)) r (now (ledger .exit)) (now (table .exit)) ⌝ }
@@ -44,7 +45,7 @@ fn answered(
 }
 
 // The lines of all records, and of a bad one: each call on what the last left.
-fn lines(tape: &[u8], ledger: &mut [u32; 426], table: &mut [u8], out: &mut [u8]) -> usize
+fn lines(tape: &[u8], ledger: &mut Words, table: &mut [u8], out: &mut [u8]) -> usize
     requires { ⌜ (length (now tape) ≤ 65536) × (41613 ≤ length (now out)) ⌝ }
     ensures { λ r. ⌜ Written (linesFrom 1 (stateOf (now (ledger .entry)) (now (table .entry))) (reading (now (tape .entry)))) (now (out .entry)) 0 r (now (out .exit))
         × (r ≤ length (now (out .entry))) ⌝ }
@@ -94,7 +95,7 @@ pub fn print(tape: &[u8], out: &mut [u8; 41613]) -> usize
         let end = word(out, 0, b"long");
         return put(out, end, b'\n');
     }
-    let mut ledger = [0u32; 426];
+    let mut ledger = [0u32; words::SIZE];
     let mut table = blank_table();
     let end = 8 * handed(tape);
     lines(tape, &mut ledger, &mut table[..end], out)

@@ -9,9 +9,10 @@ use door::roles::TVM;
 use door::roles::TYPE;
 use records::table;
 use rules::Call;
+use words::Words;
 use words::sizes;
 
-pub fn refuses11(l: &[u32; 426], t: &[u8], q: Call, a: &[u64; 12], pages: u64) -> bool
+pub fn refuses11(l: &Words, t: &[u8], q: Call, a: &[u64; 12], pages: u64) -> bool
     requires { ⌜ Ready (now l) (now t) q (now a) pages ⌝ }
     ensures { λ r. ⌜ r ≡ n.refuses11 (view (now (l .entry))) (pagesOf (now (t .entry))) q ⌝ }
 {

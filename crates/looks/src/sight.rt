@@ -23,6 +23,7 @@ use records::guest::Guests;
 use records::range;
 use records::range::Found;
 use rules::Call;
+use words::Words;
 use words::parts;
 use words::sizes;
 
@@ -109,7 +110,7 @@ fn kind_for(number: u64) -> u8
     if number == 17 { 7 } else { 8 }
 }
 
-fn guests_at(l: &[u32; 426], t: &[u8], q: Call, a: &[u64; 12], pages: u64) -> Guests
+fn guests_at(l: &Words, t: &[u8], q: Call, a: &[u64; 12], pages: u64) -> Guests
     requires { ⌜ Ready (now l) (now t) q (now a) pages ⌝ }
     ensures { λ r. ⌜ r ≡ guestsAt (view (now (l .entry))) (pagesOf (now (t .entry))) q ⌝ }
 {
@@ -135,7 +136,7 @@ fn guests_at(l: &[u32; 426], t: &[u8], q: Call, a: &[u64; 12], pages: u64) -> Gu
     }
 }
 
-fn look_at_all(l: &[u32; 426], t: &[u8], q: Call, a: &[u64; 12], pages: u64) -> Sight
+fn look_at_all(l: &Words, t: &[u8], q: Call, a: &[u64; 12], pages: u64) -> Sight
     requires { ⌜ Ready (now l) (now t) q (now a) pages ⌝ }
     ensures { λ r. ⌜ Seen (view (now (l .entry))) (pagesOf (now (t .entry))) q r ⌝ }
 {
@@ -158,7 +159,7 @@ fn look_at_all(l: &[u32; 426], t: &[u8], q: Call, a: &[u64; 12], pages: u64) -> 
     }
 }
 
-pub fn look(l: &[u32; 426], t: &[u8], q: Call, a: &[u64; 12], pages: u64) -> Sight
+pub fn look(l: &Words, t: &[u8], q: Call, a: &[u64; 12], pages: u64) -> Sight
     requires { ⌜ Ready (now l) (now t) q (now a) pages ⌝ }
     ensures { λ r. ⌜ Seen (view (now (l .entry))) (pagesOf (now (t .entry))) q r ⌝ }
 {

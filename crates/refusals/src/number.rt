@@ -21,9 +21,10 @@ use seats::presence::refuses12;
 use seats::presence::refuses15;
 use seats::regions::refuses10;
 use seats::room::refuses9;
+use words::Words;
 
 // 12 to 15; whether 14 holds is known.
-fn from_12(l: &[u32; 426], t: &[u8], q: Call, a: &[u64; 12], refuses14: bool) -> u64
+fn from_12(l: &Words, t: &[u8], q: Call, a: &[u64; 12], refuses14: bool) -> u64
     requires { ⌜ Asked q (now a) × (refuses14 ≡ n.refuses14 (view (now l)) (pagesOf (now t)) q) ⌝ }
     ensures { λ r. ⌜ r ≡ n.lowestOf 12 (drop 6 (n.late (view (now (l .entry))) (pagesOf (now (t .entry))) q)) ⌝ }
 {
@@ -40,7 +41,7 @@ fn from_12(l: &[u32; 426], t: &[u8], q: Call, a: &[u64; 12], refuses14: bool) ->
 }
 
 // 8 to 15.
-fn from_8(l: &[u32; 426], t: &[u8], q: Call, a: &[u64; 12], pages: u64, refuses14: bool) -> u64
+fn from_8(l: &Words, t: &[u8], q: Call, a: &[u64; 12], pages: u64, refuses14: bool) -> u64
     requires { ⌜ Ready (now l) (now t) q (now a) pages × (refuses14 ≡ n.refuses14 (view (now l)) (pagesOf (now t)) q) ⌝ }
     ensures { λ r. ⌜ r ≡ n.lowestOf 8 (drop 2 (n.late (view (now (l .entry))) (pagesOf (now (t .entry))) q)) ⌝ }
 {
@@ -60,7 +61,7 @@ fn from_8(l: &[u32; 426], t: &[u8], q: Call, a: &[u64; 12], pages: u64, refuses1
 }
 
 // 6 to 15.
-fn from_6(l: &[u32; 426], t: &[u8], q: Call, a: &[u64; 12], pages: u64) -> u64
+fn from_6(l: &Words, t: &[u8], q: Call, a: &[u64; 12], pages: u64) -> u64
     requires { ⌜ Ready (now l) (now t) q (now a) pages ⌝ }
     ensures { λ r. ⌜ r ≡ n.lowestOf 6 (n.late (view (now (l .entry))) (pagesOf (now (t .entry))) q) ⌝ }
 {
@@ -77,7 +78,7 @@ fn from_6(l: &[u32; 426], t: &[u8], q: Call, a: &[u64; 12], pages: u64) -> u64
 }
 
 // The first five look at no record, and give the bounds that the others need.
-pub fn refusal(l: &[u32; 426], t: &[u8], q: Call, a: &[u64; 12], row: u64) -> u64
+pub fn refusal(l: &Words, t: &[u8], q: Call, a: &[u64; 12], row: u64) -> u64
     requires { ⌜ Asked q (now a) × (row ≡ rowOf (q .number)) ⌝ }
     ensures { λ r. ⌜ r ≡ n.refusal (view (now (l .entry))) (pagesOf (now (t .entry))) q ⌝ }
 {

@@ -6,6 +6,7 @@ ghost use Rattle.rules.specs.Encoding.{view, pagesOf, bits};
 ghost use Rattle.door.specs.Asked.{Asked};
 use door::roles::TVM;
 use rules::Call;
+use words::Words;
 use words::parts;
 
 pub fn is_awaited(awaited: u8) -> bool
@@ -14,7 +15,7 @@ pub fn is_awaited(awaited: u8) -> bool
     awaited != 0
 }
 
-pub fn refuses8(l: &[u32; 426], t: &[u8], q: Call, a: &[u64; 12]) -> bool
+pub fn refuses8(l: &Words, t: &[u8], q: Call, a: &[u64; 12]) -> bool
     requires { ⌜ Asked q (now a) ⌝ }
     ensures { λ r. ⌜ r ≡ n.refuses8 (view (now (l .entry))) (pagesOf (now (t .entry))) q ⌝ }
 {
@@ -26,7 +27,7 @@ pub fn refuses8(l: &[u32; 426], t: &[u8], q: Call, a: &[u64; 12]) -> bool
     }
 }
 
-pub fn refuses13(l: &[u32; 426], t: &[u8], q: Call, a: &[u64; 12]) -> bool
+pub fn refuses13(l: &Words, t: &[u8], q: Call, a: &[u64; 12]) -> bool
     requires { ⌜ Asked q (now a) ⌝ }
     ensures { λ r. ⌜ r ≡ n.refuses13 (view (now (l .entry))) (pagesOf (now (t .entry))) q ⌝ }
 {

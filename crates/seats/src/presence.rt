@@ -11,10 +11,11 @@ use door::early::is_made;
 use door::roles::TVM;
 use door::roles::VCPU;
 use rules::Call;
+use words::Words;
 use words::parts;
 use words::parts::Place;
 
-fn is_outside(l: &[u32; 426], h: u64) -> bool
+fn is_outside(l: &Words, h: u64) -> bool
     ensures { λ r. ⌜ r ≡ isOutside (view (now (l .entry)) .hart h .place) ⌝ }
 {
     match parts::place_of(l, h) {
@@ -38,7 +39,7 @@ fn is_there(p: Place, whole: bool, k: u64, v: u64) -> bool
 }
 
 // The harts that are there, as a set in a byte.
-pub fn there(l: &[u32; 426], whole: bool, k: u64, v: u64) -> u8
+pub fn there(l: &Words, whole: bool, k: u64, v: u64) -> u8
     ensures { λ r. ⌜ bits r ≡ thereOf (view (now (l .entry))) whole k v ⌝ }
 {
     let mut set: u8 = 0;
@@ -53,7 +54,7 @@ pub fn there(l: &[u32; 426], whole: bool, k: u64, v: u64) -> u8
 }
 
 // What refuses 8, 14 and 15 besides: somebody inside, a vCPU that is made, one that runs.
-fn is_busy(l: &[u32; 426], number: u64, tvm: u64, vcpu: u64) -> bool
+fn is_busy(l: &Words, number: u64, tvm: u64, vcpu: u64) -> bool
     ensures { λ r. ⌜ r ≡ busyBy (view (now (l .entry))) number tvm vcpu ⌝ }
 {
     match number {
@@ -64,7 +65,7 @@ fn is_busy(l: &[u32; 426], number: u64, tvm: u64, vcpu: u64) -> bool
     }
 }
 
-pub fn refuses12(l: &[u32; 426], t: &[u8], q: Call, a: &[u64; 12]) -> bool
+pub fn refuses12(l: &Words, t: &[u8], q: Call, a: &[u64; 12]) -> bool
     requires { ⌜ Asked q (now a) ⌝ }
     ensures { λ r. ⌜ r ≡ n.refuses12 (view (now (l .entry))) (pagesOf (now (t .entry))) q ⌝ }
 {
@@ -76,7 +77,7 @@ pub fn refuses12(l: &[u32; 426], t: &[u8], q: Call, a: &[u64; 12]) -> bool
     (!(number == 32) & !outside) | busy
 }
 
-pub fn refuses15(l: &[u32; 426], t: &[u8], q: Call) -> bool
+pub fn refuses15(l: &Words, t: &[u8], q: Call) -> bool
     ensures { λ r. ⌜ r ≡ n.refuses15 (view (now (l .entry))) (pagesOf (now (t .entry))) q ⌝ }
 {
     if q.number == 32 {

@@ -12,6 +12,7 @@ use door::roles::GUEST;
 use door::roles::TVM;
 use door::roles::TYPE;
 use rules::Call;
+use words::Words;
 use words::parts;
 use words::parts::Region;
 
@@ -36,7 +37,7 @@ fn holds(r: Region, first: u64, pages: u64) -> bool
     (from <= first) & (end <= to)
 }
 
-fn is_met(l: &[u32; 426], k: u64, i: u64, whole: bool, first: u64, pages: u64) -> bool
+fn is_met(l: &Words, k: u64, i: u64, whole: bool, first: u64, pages: u64) -> bool
     requires { ⌜ first + pages ≤ 1048576 ⌝ }
     ensures { λ r. ⌜ r ≡ meets whole first pages (view (now (l .entry)) .slot k .region i) ⌝ }
 {
@@ -48,7 +49,7 @@ fn is_met(l: &[u32; 426], k: u64, i: u64, whole: bool, first: u64, pages: u64) -
 }
 
 // Some region of the slot holds the whole range, or overlaps it.
-fn meets_any(l: &[u32; 426], k: u64, whole: bool, first: u64, pages: u64) -> bool
+fn meets_any(l: &Words, k: u64, whole: bool, first: u64, pages: u64) -> bool
     requires { ⌜ first + pages ≤ 1048576 ⌝ }
     ensures { λ r. ⌜ r ≡ any (λ i. meets whole first pages (view (now (l .entry)) .slot k .region i)) 8 ⌝ }
 {
@@ -62,7 +63,7 @@ fn meets_any(l: &[u32; 426], k: u64, whole: bool, first: u64, pages: u64) -> boo
     false
 }
 
-pub fn refuses10(l: &[u32; 426], t: &[u8], q: Call, a: &[u64; 12], pages: u64) -> bool
+pub fn refuses10(l: &Words, t: &[u8], q: Call, a: &[u64; 12], pages: u64) -> bool
     requires { ⌜ Ready (now l) (now t) q (now a) pages ⌝ }
     ensures { λ r. ⌜ r ≡ n.refuses10 (view (now (l .entry))) (pagesOf (now (t .entry))) q ⌝ }
 {

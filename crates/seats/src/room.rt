@@ -6,9 +6,10 @@ ghost use Rattle.rules.specs.Encoding.{view, pagesOf};
 ghost use Rattle.door.specs.Asked.{Asked};
 use door::roles::TVM;
 use rules::Call;
+use words::Words;
 use words::parts;
 
-fn is_takeable(l: &[u32; 426], k: u64) -> bool
+fn is_takeable(l: &Words, k: u64) -> bool
     ensures { λ r. ⌜ r ≡ n.takeable (view (now (l .entry))) k ⌝ }
 {
     let phase = parts::phase(l, k);
@@ -17,7 +18,7 @@ fn is_takeable(l: &[u32; 426], k: u64) -> bool
 }
 
 // The lowest slot that create may take, 16 where there is none.
-pub fn taken(l: &[u32; 426]) -> u64
+pub fn taken(l: &Words) -> u64
     ensures { λ r. ⌜ r ≡ n.taken (view (now (l .entry))) ⌝ }
 {
     let mut k = 0;
@@ -30,7 +31,7 @@ pub fn taken(l: &[u32; 426]) -> u64
     16
 }
 
-fn is_unused(l: &[u32; 426], k: u64, i: u64) -> bool
+fn is_unused(l: &Words, k: u64, i: u64) -> bool
     ensures { λ r. ⌜ r ≡ n.unused (view (now (l .entry)) .slot k) i ⌝ }
 {
     let r = parts::region_at(l, k, i);
@@ -38,7 +39,7 @@ fn is_unused(l: &[u32; 426], k: u64, i: u64) -> bool
 }
 
 // The lowest place of the slot that has no region, 8 where there is none.
-pub fn unused(l: &[u32; 426], k: u64) -> u64
+pub fn unused(l: &Words, k: u64) -> u64
     ensures { λ r. ⌜ r ≡ lowest (n.unused (view (now (l .entry)) .slot k)) 8 ⌝ }
 {
     let mut i = 0;
@@ -51,7 +52,7 @@ pub fn unused(l: &[u32; 426], k: u64) -> u64
     8
 }
 
-pub fn refuses9(l: &[u32; 426], t: &[u8], q: Call, a: &[u64; 12]) -> bool
+pub fn refuses9(l: &Words, t: &[u8], q: Call, a: &[u64; 12]) -> bool
     requires { ⌜ Asked q (now a) ⌝ }
     ensures { λ r. ⌜ r ≡ n.refuses9 (view (now (l .entry))) (pagesOf (now (t .entry))) q ⌝ }
 {

@@ -3,3 +3,8 @@
 pub mod cells;
 pub mod parts;
 pub mod sizes;
+
+// How many words there are: a new run of the layout is one more sum here, and `Encoding` says which.
+pub const SIZE: usize = 426;
+
+pub type Words = [u32; SIZE];

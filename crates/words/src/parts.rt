@@ -7,6 +7,7 @@ ghost use Rattle.rules.specs.Ledger.{withGlobal, withSlot, withHart, withFence,
 ghost use Rattle.rules.specs.Encoding.{view, read, part, bits};
 ghost use Rattle.fences.specs.Trackers.{globalOf, tvmOf};
 ghost use Rattle.words.specs.Parts.{Packed, regionOf, placeIs};
+use super::Words;
 use super::cells::in_part;
 use super::cells::of_hart;
 use super::cells::of_slot;
@@ -42,7 +43,7 @@ fn pack(version: u16, awaited: u8, above: u8) -> u32
     version as u32 + 65536 * (awaited as u32) + 16777216 * (above as u32)
 }
 
-pub fn global(l: &[u32; 426]) -> GlobalTracker
+pub fn global(l: &Words) -> GlobalTracker
     ensures { λ r. ⌜ globalOf r ≡ view (now (l .entry)) .global ⌝ }
 {
     let x = word(l, 0);
@@ -53,20 +54,20 @@ pub fn global(l: &[u32; 426]) -> GlobalTracker
     }
 }
 
-pub fn set_global(l: &mut [u32; 426], g: GlobalTracker)
+pub fn set_global(l: &mut Words, g: GlobalTracker)
     ensures { λ _. ⌜ view (now (l .exit)) ≡ withGlobal (globalOf g) (view (now (l .entry))) ⌝ }
 {
     let harts = (word(&*l, 0) / 16777216) as u8;
     put(l, 0, pack(g.version.0, g.awaited, harts));
 }
 
-fn fence_word(l: &[u32; 426], k: u64) -> u32
+fn fence_word(l: &Words, k: u64) -> u32
     ensures { λ r. ⌜ r ≡ part (read (now (l .entry))) 2 16 k ⌝ }
 {
     in_part(l, FENCES, 16, k)
 }
 
-pub fn fence(l: &[u32; 426], k: u64) -> TvmTracker
+pub fn fence(l: &Words, k: u64) -> TvmTracker
     ensures { λ r. ⌜ tvmOf r ≡ view (now (l .entry)) .slot k .fence ⌝ }
 {
     let x = fence_word(l, k);
@@ -78,13 +79,13 @@ pub fn fence(l: &[u32; 426], k: u64) -> TvmTracker
 }
 
 // The vCPUs made, as a set in a byte.
-pub fn made(l: &[u32; 426], k: u64) -> u8
+pub fn made(l: &Words, k: u64) -> u8
     ensures { λ r. ⌜ bits r ≡ view (now (l .entry)) .slot k .made ⌝ }
 {
     (fence_word(l, k) / 16777216) as u8
 }
 
-pub fn set_fence(l: &mut [u32; 426], k: u64, t: TvmTracker)
+pub fn set_fence(l: &mut Words, k: u64, t: TvmTracker)
     requires { ⌜ k < 16 ⌝ }
     ensures { λ _. ⌜ view (now (l .exit)) ≡ withSlot k (withFence (tvmOf t) (view (now (l .entry)) .slot k)) (view (now (l .entry))) ⌝ }
 {
@@ -93,27 +94,27 @@ pub fn set_fence(l: &mut [u32; 426], k: u64, t: TvmTracker)
 }
 
 // A fence with the vCPUs that are made from now on.
-pub fn set_made(l: &mut [u32; 426], k: u64, t: TvmTracker, vcpus: u8)
+pub fn set_made(l: &mut Words, k: u64, t: TvmTracker, vcpus: u8)
     requires { ⌜ k < 16 ⌝ }
     ensures { λ _. ⌜ view (now (l .exit)) ≡ withSlot k (slotWith (view (now (l .entry)) .slot k .phase) (tvmOf t) (bits vcpus) (view (now (l .entry)) .slot k .region)) (view (now (l .entry))) ⌝ }
 {
     put(l, FENCES + k as usize, pack(t.version.0, t.awaited, vcpus));
 }
 
-pub fn phase(l: &[u32; 426], k: u64) -> u32
+pub fn phase(l: &Words, k: u64) -> u32
     ensures { λ r. ⌜ r ≡ view (now (l .entry)) .slot k .phase ⌝ }
 {
     in_part(l, PHASES, 16, k)
 }
 
-pub fn set_phase(l: &mut [u32; 426], k: u64, phase: u32)
+pub fn set_phase(l: &mut Words, k: u64, phase: u32)
     requires { ⌜ k < 16 ⌝ }
     ensures { λ _. ⌜ view (now (l .exit)) ≡ withSlot k (slotWith phase (view (now (l .entry)) .slot k .fence) (view (now (l .entry)) .slot k .made) (view (now (l .entry)) .slot k .region)) (view (now (l .entry))) ⌝ }
 {
     put(l, PHASES + k as usize, phase);
 }
 
-pub fn region_at(l: &[u32; 426], k: u64, i: u64) -> Region
+pub fn region_at(l: &Words, k: u64, i: u64) -> Region
     ensures { λ r. ⌜ regionOf r ≡ view (now (l .entry)) .slot k .region i ⌝ }
 {
     let first = of_slot(l, FIRSTS, k, i);
@@ -121,7 +122,7 @@ pub fn region_at(l: &[u32; 426], k: u64, i: u64) -> Region
     Region { first, pages }
 }
 
-pub fn set_region(l: &mut [u32; 426], k: u64, i: u64, r: Region)
+pub fn set_region(l: &mut Words, k: u64, i: u64, r: Region)
     requires { ⌜ (k < 16) × (i < 8) ⌝ }
     ensures { λ _. ⌜ view (now (l .exit)) ≡ withSlot k (slotWith (view (now (l .entry)) .slot k .phase) (view (now (l .entry)) .slot k .fence) (view (now (l .entry)) .slot k .made) (store i (regionOf r) (view (now (l .entry)) .slot k .region))) (view (now (l .entry))) ⌝ }
 {
@@ -136,7 +137,7 @@ pub enum Place {
     Inside { slot: u32, vcpu: u32 },
 }
 
-pub fn place_of(l: &[u32; 426], h: u64) -> Place
+pub fn place_of(l: &Words, h: u64) -> Place
     ensures { λ r. ⌜ placeIs r ≡ view (now (l .entry)) .hart h .place ⌝ }
 {
     let x = in_part(l, PLACES, 8, h);
@@ -150,7 +151,7 @@ pub fn place_of(l: &[u32; 426], h: u64) -> Place
     }
 }
 
-pub fn set_outside(l: &mut [u32; 426], h: u64)
+pub fn set_outside(l: &mut Words, h: u64)
     requires { ⌜ h < 8 ⌝ }
     ensures { λ _. ⌜ view (now (l .exit)) ≡ withHart h (record { place = outside; mark = view (now (l .entry)) .hart h .mark }) (view (now (l .entry))) ⌝ }
 {
@@ -158,7 +159,7 @@ pub fn set_outside(l: &mut [u32; 426], h: u64)
 }
 
 // Inside the vCPU of a slot, with the slot's version as the mark.
-pub fn set_inside(l: &mut [u32; 426], h: u64, k: u64, v: u64, version: TvmVersion)
+pub fn set_inside(l: &mut Words, h: u64, k: u64, v: u64, version: TvmVersion)
     requires { ⌜ (h < 8) × (k < 16) × (v < 8) ⌝ }
     ensures { λ _. ⌜ view (now (l .exit)) ≡ withHart h (record { place = inside k v; mark = store k (some (version .0)) (view (now (l .entry)) .hart h .mark) }) (view (now (l .entry))) ⌝ }
 {
@@ -167,7 +168,7 @@ pub fn set_inside(l: &mut [u32; 426], h: u64, k: u64, v: u64, version: TvmVersio
 }
 
 // Entry of the hart into the slot flushes. (A mark that no version can be is none of them.)
-pub fn enters_flushed(l: &[u32; 426], h: u64, k: u64, version: TvmVersion) -> bool
+pub fn enters_flushed(l: &Words, h: u64, k: u64, version: TvmVersion) -> bool
     ensures { λ r. ⌜ r ≡ flushes (view (now (l .entry)) .hart h .mark k) (version .0) ⌝ }
 {
     let x = of_hart(l, MARKS, h, k);
