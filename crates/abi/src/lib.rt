@@ -1,4 +1,7 @@
 // The ledger for C: one function over `call`. include/roadbellow.h declares it.
+
+#![tactic(auto)]
+
 ghost use Rattle.ledger.specs.Settled.{call_with};
 ghost use Rattle.abi.specs.Replied.{Replied};
 
@@ -7,7 +10,7 @@ use words::Words;
 
 // An answer in document 01's numbers.
 #[repr(C)]
-#[derive(Drop)]
+#[derive(Clone, Copy)]
 pub struct Reply {
     pub error: i64,
     pub value: u64,

@@ -1,5 +1,8 @@
 // The door: what a call asks for is settled once, in words by role; and refusals 1 to 5, which look at no record and give the bounds that the others
 // need. One function a number, each one equation with its condition in `rules`.
+
+#![tactic(auto)]
+
 pub mod asked;
 pub mod early;
 pub mod places;

@@ -1,2 +1,1 @@
-mod InLocal
 pub mod Trackers

@@ -1,5 +1,8 @@
 // Fence versions and trackers. "The global version and a TVM's version count different fences and never meet in a comparison": two types, so
 // that a page's recorded version meets only its own tracker.
+
+#![tactic(auto)]
+
 ghost use Rattle.std.specs.Prelude.{◌≡◌, ◌+◌, ◌<◌, min};
 ghost use Rattle.rules.specs.Fence.{done, number};
 ghost use Rattle.rules.specs.Ledger.{flushes as flushesAt};
@@ -8,27 +11,27 @@ ghost use Rattle.fences.specs.Trackers.{global_of, tvm_of, tracker_at, mark_of, 
 
 pub mod lent;
 
-#[derive(Drop)]
+#[derive(Clone, Copy)]
 pub struct GlobalVersion(pub u16);
 
-#[derive(Drop)]
+#[derive(Clone, Copy)]
 pub struct TvmVersion(pub u16);
 
 // The present version, and the awaited harts as a set in a byte.
-#[derive(Drop)]
+#[derive(Clone, Copy)]
 pub struct GlobalTracker {
     pub version: GlobalVersion,
     pub awaited: u8,
 }
 
-#[derive(Drop)]
+#[derive(Clone, Copy)]
 pub struct TvmTracker {
     pub version: TvmVersion,
     pub awaited: u8,
 }
 
 // The version at a hart's last flush for a slot, or never.
-#[derive(Drop)]
+#[derive(Clone, Copy)]
 pub enum Mark {
     Never,
     At(TvmVersion),

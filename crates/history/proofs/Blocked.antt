@@ -49,7 +49,7 @@ module _ (p k r : ℕ) where
       where
         go : Before → writes l t (call 8 c) p ≡ false → (b : Bool) → eqb k c.a0 ≡ b
             → Inv r (cond b (destroyed (l.slot c.a0)) (l.slot k)).fence w.begun w.owing
-        go o e true h = absurd (true≢false (sym (rw (o.kind-is, o.slot_is) h) ∙ e))
+        go o e true h = absurd (true≢false (sym (rw (o.kind_is, o.slot_is) h) ∙ e))
         go o e false h = o.inv
 
     by16 : Passed l t (call 16 c) → Ends 16
@@ -64,13 +64,13 @@ module _ (p k r : ℕ) where
         go o true e =
             let z = eqb-true k c.a0 e in
             inv_begin r (l.slot c.a0).fence w.begun w.owing (insiders_of l c.a0) (λ j. is_in_slot k (w.seats.place j))
-            (λ j. rw (z, s.sits.places-are j)) q.p8 (subst (λ x. Inv r (l.slot x).fence w.begun w.owing) z o.inv)
+            (λ j. rw (z, s.sits.places_are j)) q.p8 (subst (λ x. Inv r (l.slot x).fence w.begun w.owing) z o.inv)
         go o false e = o.inv
 
     -- a record that 17 writes was of kind 7
     by17 : Passed l t (call 17 c) → Ends 17
     unfolding at_number watching
-    by17 q = record { other = λ o e. absurd (omega (arith, seven e, o.kind-is)); moves_on = λ o e. o.inv }
+    by17 q = record { other = λ o e. absurd (omega (arith, seven e, o.kind_is)); moves_on = λ o e. o.inv }
       where
         seven : writes l t (call 17 c) p ≡ true → (t.page p).kind ≡ 7
         seven e =
@@ -85,7 +85,7 @@ module _ (p k r : ℕ) where
     unfolding at_number watching
     by32 q = record {
       other = λ o e. refl;
-      moves_on = λ o e. rw (s.sits.places-are c.hart)
+      moves_on = λ o e. rw (s.sits.places_are c.hart)
           (subst (λ (x : ℕ → Slot). Inv r (x k).fence w.begun (cond (is_in_slot k (l.hart c.hart).place) (put c.hart false w.owing) w.owing))
           (sym (left-slot l t c q)) (go o (is_in_slot k (l.hart c.hart).place)));
     }

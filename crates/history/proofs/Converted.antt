@@ -30,14 +30,14 @@ module _ (p r : ℕ) where
 
     by1 : Passed l t (call 1 c) → Ends 1
     unfolding at_number watching
-    by1 q = record { other = λ o e. absurd (omega (arith, o.kind-is, host_ordinary l t (call 1 c) q p e)); moves_on = λ o e. o.inv }
+    by1 q = record { other = λ o e. absurd (omega (arith, o.kind_is, host_ordinary l t (call 1 c) q p e)); moves_on = λ o e. o.inv }
 
     by3 : Passed l t (call 3 c) → Ends 3
     unfolding at_number watching
     by3 q = record {
       other = λ o e. refl;
       moves_on = λ o e. inv_begin r l.global w.begun w.owing (others_of l c.hart) (λ j. ltb j w.seats.harts && not (eqb j c.hart))
-          (λ j. rw s.sits.harts-are) (or_left (someone l.global.awaited) false q.p8) o.inv;
+          (λ j. rw s.sits.harts_are) (or_left (someone l.global.awaited) false q.p8) o.inv;
     }
 
     not_one : (b : Bool) → eqb (page (cond b 3 4) (taken l) 0 0).kind 1 ≡ false

@@ -88,7 +88,7 @@ module _ (X : GuestView) (l : Ledger) (t : Table) (c : Call) (s : I X l t) where
       x = seats d X.seats
 
       counted : (j k : ℕ) → is_in_slot k (m.hart j).place ≡ true → j < m.harts
-      counted j k e = by_test (ltb j m.harts) (λ q. ltb-true j m.harts q) (λ q. absurd (false≢true (rw (h.none-past j (ltb-false j m.harts q)) at e)))
+      counted j k e = by_test (ltb j m.harts) (λ q. ltb-true j m.harts q) (λ q. absurd (false≢true (rw (h.none_past j (ltb-false j m.harts q)) at e)))
 
       go : (j k g p : ℕ) → ((X.may j k g p && not (flushed d (value l t d) j k)) ≡ true) ⊎ (may_fill x u j k g p ≡ true)
           → (j < m.harts) × (p < m.pages) × Ok j k g (m.hart j) (m.slot k).fence (u.page p)
@@ -100,8 +100,8 @@ module _ (X : GuestView) (l : Ledger) (t : Table) (c : Call) (s : I X l t) where
           let a = and_left (is_in_slot k (x.place j)) (ltb p x.pages && here) e in
           let y = and_right (is_in_slot k (x.place j)) (ltb p x.pages && here) e in
           let z = and_right (ltb p x.pages) here y in (
-            counted j k (rw (h.places-are j) at a),
-            ltb-true p m.pages (rw h.pages-are at (and_left (ltb p x.pages) here y)),
+            counted j k (rw (h.places_are j) at a),
+            ltb-true p m.pages (rw h.pages_are at (and_left (ltb p x.pages) here y)),
             present (eqb-true (u.page p).kind 7 (and_left (eqb (u.page p).kind 7) (claims k g (u.page p)) z)) (and_right (eqb (u.page p).kind 7) (claims k g (u.page p)) z),
           )
 
@@ -243,7 +243,7 @@ module _ (X : GuestView) (l : Ledger) (t : Table) (c : Call) (s : I X l t) where
       let a = claim k g (t.page p) e in
       let b = claim slot (guest_page (t.page p)) (t.page p) m.claimed in
       let z : k ≡ slot = sym a.slot_is ∙ b.slot_is in
-      (z, rw (i, eq-eqb slot k (sym z), word-page (guest_page (t.page p)) (is_large (t.page p)) (omega arith)) (eq-eqb (guest_page (t.page p)) g a.guest-is))
+      (z, rw (i, eq-eqb slot k (sym z), word-page (guest_page (t.page p)) (is_large (t.page p)) (omega arith)) (eq-eqb (guest_page (t.page p)) g a.guest_is))
 
   by17 : Left (call 17 c)
   unfolding at_number
@@ -370,7 +370,7 @@ guest_safe t cs j k g p e i = ((whole.safe j k g p e).1, go (whole.safe j k g p 
         (record { sits = seated-first; marked = marks_first; safe = λ j k g p e. absurd (false≢true e) })
 
     go : Ok j k g (l.hart j) (l.slot k).fence (u.page p) → claims k g (u.page p) ≡ true
-    go (stale x y) = absurd (true≢false (sym (rw (whole.sits.places-are j) at i) ∙ x))
+    go (stale x y) = absurd (true≢false (sym (rw (whole.sits.places_are j) at i) ∙ x))
     go (present x y) = y
     go (unfenced x y z) = y
     go (awaited x y z w) = y

@@ -87,7 +87,7 @@ module _ (M : HostView) (l : Ledger) (t : Table) (c : Call) (s : I M l t) where
       go j p (inr e) =
           let a = and_left (ltb j x.harts) (is_outside (x.place j)) (and_left (ltb j x.harts && is_outside (x.place j)) (ltb p x.pages && eqb (u.page p).kind 0) e) in
           let b = and_right (ltb j x.harts && is_outside (x.place j)) (ltb p x.pages && eqb (u.page p).kind 0) e in
-          ordinary (ltb-true j m.harts (rw k.harts-are at a)) (ltb-true p m.pages (rw k.pages-are at (and_left (ltb p x.pages) (eqb (u.page p).kind 0) b)))
+          ordinary (ltb-true j m.harts (rw k.harts_are at a)) (ltb-true p m.pages (rw k.pages_are at (and_left (ltb p x.pages) (eqb (u.page p).kind 0) b)))
           (eqb-true (u.page p).kind 0 (and_right (ltb p x.pages) (eqb (u.page p).kind 0) b))
 
   -- a call that leaves the trackers, and writes records where b says so

@@ -132,7 +132,7 @@ module _ (s : State) (d : Call) where
   module _ (g q : ℕ) (k : Claim (arg Tvm d) g (s.table.page q)) where
     is_needed : undoes ≡ true → within (first_guest d) (size d) g ≡ true → ltb q s.ledger.pages ≡ true → meant s.table s.ledger.pages (arg Tvm d) g ≡ q → needs s d q ≡ true
     unfolding needs is_meant
-    is_needed two here below m = rw (two, below, k.guest-is, here, eq-eqb (meant s.table s.ledger.pages (arg Tvm d) g) q m) (or-true (is_of (free_spans d) q))
+    is_needed two here below m = rw (two, below, k.guest_is, here, eq-eqb (meant s.table s.ledger.pages (arg Tvm d) g) q m) (or-true (is_of (free_spans d) q))
 
     is-late : (s.table.page q).kind ≡ 8 → not (done (s.ledger.slot (arg Tvm d)).fence (s.table.page q).version) ≡ true → not_done s.ledger (s.table.page q) ≡ true
     unfolding not_done

@@ -78,7 +78,7 @@ claim k g p e =
     }
 
 pub claims-held : (k g : ℕ) (p : Page) → claims k g p ≡ true → held_of p ≡ maps k g
-claims-held k g p e = let c = claim k g p e in rw (c.claim_mapped, c.slot_is, c.guest-is)
+claims-held k g p e = let c = claim k g p e in rw (c.claim_mapped, c.slot_is, c.guest_is)
 
 pub held-claims : (k g : ℕ) (p : Page) → held_of p ≡ maps k g → claims k g p ≡ true
 held-claims k g p = go (is_mapped p) (is_given p)

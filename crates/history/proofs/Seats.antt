@@ -35,15 +35,15 @@ module _ (x : Seats) (l : Ledger) (t : Table) (c : Call) (s : SeatedIn x l) wher
   -- a hart of the count goes to a place
   moves_to : (y : Hart) → c.hart < l.harts
       → Seated (record { harts = x.harts; pages = x.pages; place = λ j. cond (eqb j c.hart) y.place (x.place j) }) l.harts l.pages (λ j. cond (eqb j c.hart) y (l.hart j))
-  moves_to y b = record { sizes = s.sizes; harts_are = s.harts-are; pages_are = s.pages-are; places_are = λ j. go j (eqb j c.hart); none_past = λ j d. past j d (eqb j c.hart) refl }
+  moves_to y b = record { sizes = s.sizes; harts_are = s.harts_are; pages_are = s.pages_are; places_are = λ j. go j (eqb j c.hart); none_past = λ j d. past j d (eqb j c.hart) refl }
     where
       go : (j : ℕ) (b : Bool) → cond b y.place (x.place j) ≡ (cond b y (l.hart j)).place
       go j true = refl
-      go j false = s.places-are j
+      go j false = s.places_are j
 
       past : (j : ℕ) → l.harts ≤ j → (b : Bool) → eqb j c.hart ≡ b → (cond b y (l.hart j)).place ≡ outside
       past j d true e = let z = eqb-true j c.hart e in absurd (omega arith)
-      past j d false e = s.none-past j d
+      past j d false e = s.none_past j d
 
   -- a call keeps the seats true, and a ledger open
   abbrev Kept : Call → Type 0

@@ -67,10 +67,10 @@ module _ (f : Fencing) (fence : Ledger → Tracker) (m p k r : ℕ) where
           let old = s.live (and_left w.lasts (eqb new.kind m) g) in
           let (no_write, same) = unwritten m (writes l t d p) (written l t d p) (t.page p) (e.other old) (and_right w.lasts (eqb new.kind m) g) in
           record {
-            kind_is = ap (λ (q : Page). q.kind) same ∙ old.kind-is;
+            kind_is = ap (λ (q : Page). q.kind) same ∙ old.kind_is;
             slot_is = ap (λ (q : Page). q.slot) same ∙ old.slot_is;
             version-is = ap (λ (q : Page). q.version) same ∙ old.version-is;
-            inv = e.moves-on old no_write;
+            inv = e.moves_on old no_write;
           }
 
   module _ (fates : EachFate) where
@@ -91,7 +91,7 @@ module _ (f : Fencing) (fence : Ledger → Tracker) (m p k r : ℕ) where
           when = ap (done (fence s.ledger)) v.version-is ∙ inv_done r (fence s.ledger) w.begun w.owing v.inv
 
           still : not_done s.ledger (s.table.page p) ≡ not (ended w)
-          still = counts s v.kind-is v.slot_is ∙ ap not when
+          still = counts s v.kind_is v.slot_is ∙ ap not when
 
       pub waits : (t : Table) (cs : List Call) (c : Call) (ds : List Call) → Turned m t cs c p → is_open (step (after t cs) c).after.ledger ≡ true
           → Live m k r (fence (step (after t cs) c).after.ledger) false (λ j. false) ((step (after t cs) c).after.table.page p)

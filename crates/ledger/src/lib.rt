@@ -1,4 +1,7 @@
 // The ledger: 426 words and a table of page records, both lent. All zero is a ledger that is not open. `call` is all that a host needs.
+
+#![tactic(auto)]
+
 mod kept;
 mod table;
 

@@ -18,7 +18,7 @@ use rules::Call;
 use words::{Words, parts, sizes};
 
 // Whether each of the three holds; of 7 and 14 only where 6 does not.
-#[derive(Drop)]
+#[derive(Clone, Copy)]
 pub struct Sight {
     pub refuses6: bool,
     pub refuses7: bool,

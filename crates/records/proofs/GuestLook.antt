@@ -73,10 +73,10 @@ module _ (t : Table) (n slot first number kind : ℕ) (fence : Tracker) where
         let m = sym is ∙ e in record {
           upto = omega arith;
           pages = seen_next t slot first number n i seen few h s.pages _ refl;
-          missing_is = omega (arith, s.missing-is, tally_new t slot first number n i seen few h s.pages e, room t slot first number n i seen few h s.pages e);
+          missing_is = omega (arith, s.missing_is, tally_new t slot first number n i seen few h s.pages e, room t slot first number n i seen few h s.pages e);
           kinds = met_on wrong i m ∙ rw (s.kinds, k);
-          undone_is = rw (met_on undone_of i m, s.undone-is);
-          cut_is = rw (met_on (is_cut first number) i m, s.cut-is);
+          undone_is = rw (met_on undone_of i m, s.undone_is);
+          cut_is = rw (met_on (is_cut first number) i m, s.cut_is);
         }
 
     looked_other : is_new slot first number (t.page i) seen ≡ false → Looked (i + 1) (noted slot first number (t.page i) seen) missing undone cut
@@ -84,10 +84,10 @@ module _ (t : Table) (n slot first number kind : ℕ) (fence : Tracker) where
         let m = sym is ∙ e in record {
           upto = omega arith;
           pages = seen_next t slot first number n i seen few h s.pages _ refl;
-          missing_is = omega (arith, s.missing-is, tally_old t slot first number n i seen few h s.pages e);
+          missing_is = omega (arith, s.missing_is, tally_old t slot first number n i seen few h s.pages e);
           kinds = met_off wrong i m ∙ s.kinds;
-          undone_is = s.undone-is ∙ sym (met_off undone_of i m);
-          cut_is = s.cut-is ∙ sym (met_off (is_cut first number) i m);
+          undone_is = s.undone_is ∙ sym (met_off undone_of i m);
+          cut_is = s.cut_is ∙ sym (met_off (is_cut first number) i m);
         }
 
     -- a record of another kind: the range is not ready
@@ -109,7 +109,7 @@ module _ (t : Table) (n slot first number kind : ℕ) (fence : Tracker) where
       turn_other missing' undone' cut' e a b c = rw (notes, a, b, c, read) (looked_other (rw read at e))
 
       pub turn_room : is_new slot first number p seen ≡ true → 0 < missing
-      turn_room e = omega (arith, s.missing-is, room t slot first number n i seen few h s.pages (rw read at e))
+      turn_room e = omega (arith, s.missing_is, room t slot first number n i seen few h s.pages (rw read at e))
 
       pub turn_bad : is_new slot first number p seen ≡ true → (p.kind ≡ kind → ⊥) → Unready ≡ guest_look t n slot first number kind fence
       turn_bad e k = looked_bad (rw read at e) (ne_eqb (t.page i).kind kind (λ q. k (ap (λ (y : Page). y.kind) read ∙ q)))
@@ -119,7 +119,7 @@ module _ (t : Table) (n slot first number kind : ℕ) (fence : Tracker) where
     pub looked_full : missing ≡ 0 → Ready undone cut ≡ guest_look t n slot first number kind fence
     unfolding guest_look
     looked_full e =
-        let full : tally number seen ≡ number = omega (arith, s.missing-is) in
+        let full : tally number seen ≡ number = omega (arith, s.missing_is) in
         let there : (d : ℕ) → d < number → meant t n slot (first + d) < n = λ d l.
         let (k, b, q) = any_one (λ k. claims slot (first + d) (t.page k)) i (all_claimed t n slot first number i seen s.pages full d l) in
         ltb-true _ _ (mapped-is t n slot first number d ∙ any_hit (λ k. claims slot (first + d) (t.page k)) k n (omega (arith, s.upto)) q) in
@@ -127,14 +127,14 @@ module _ (t : Table) (n slot first number kind : ℕ) (fence : Tracker) where
         any_upto (λ j. is_meant t n slot first number j && test (t.page j)) i n s.upto (λ j l. rw (none_left t n slot first number i seen s.pages full j l)) ∙ hits t n slot first number test there in
         let good : any (λ d. not (ltb (meant t n slot (first + d)) n && eqb (t.page (meant t n slot (first + d))).kind kind)) number ≡ false =
         any_ext _ _ number (λ d l. rw (lt-ltb (meant t n slot (first + d)) n (there d l))) ∙ sym (rest wrong) ∙ s.kinds in
-        rw (good, s.undone-is, rest undone_of, s.cut-is, rest (is_cut first number))
+        rw (good, s.undone_is, rest undone_of, s.cut_is, rest (is_cut first number))
 
     pub looked_short : i ≡ n → (missing ≡ 0 → ⊥) → Unready ≡ guest_look t n slot first number kind fence
     unfolding guest_look
     looked_short e k =
         let some : any (λ d. not (member_in 64 d seen)) number ≡ true =
         sym (not-all (λ d. member_in 64 d seen) number)
-        ∙ ap not (sym (count-all (λ d. member_in 64 d seen) number) ∙ ne_eqb (tally number seen) number (λ q. k (omega (arith, s.missing-is)))) in
+        ∙ ap not (sym (count-all (λ d. member_in 64 d seen) number) ∙ ne_eqb (tally number seen) number (λ q. k (omega (arith, s.missing_is)))) in
         let (d, l, q) = any_one (λ d. not (member_in 64 d seen)) number some in
         let off : ltb (meant t n slot (first + d)) n ≡ false =
         mapped-is t n slot first number d ∙ ap (λ (x : ℕ). claimed t slot first number x d) (sym e) ∙ sym (s.pages.has d l) ∙ not-true (member_in 64 d seen) q in

@@ -14,7 +14,7 @@ use rules::Page;
 
 // What a look over a guest range finds: a page that is not mapped or not as wanted; or all there, with a version that is not done, or a large
 // mapping that is cut.
-#[derive(Drop)]
+#[derive(Clone, Copy)]
 pub enum Guests {
     Unready,
     Ready { undone: bool, cut: bool },

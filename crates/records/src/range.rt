@@ -11,7 +11,7 @@ use fences::{GlobalTracker, GlobalVersion, global_done};
 use rules::Page;
 
 // What a look over a range finds: a page of another kind, or only wanted ones, of which some may be in a conversion that is not done.
-#[derive(Drop)]
+#[derive(Clone, Copy)]
 pub enum Found {
     Unwanted,
     Wanted { unfinished: bool },

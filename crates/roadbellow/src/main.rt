@@ -1,5 +1,8 @@
 // The program: a tape from standard input, and its lines to standard output. What the lines are is proved of `lines::print::print`; here are
 // only the descriptors.
+
+#![tactic(auto)]
+
 use libc::{STDIN_FILENO, STDOUT_FILENO};
 
 fn main() {

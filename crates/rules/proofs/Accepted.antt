@@ -66,7 +66,7 @@ module _ (P : ℕ → Type 0) where
   unfolding entry_of
   by_call k = each calls (
     k.convert,
-    (k.reclaim, (k.global-fence, (k.local-fence, (k.create, (k.finalize, (k.destroy, (k.region, (k.pool, (k.measured, (k.zeros, (k.vcpu, (k.enter, (k.tvm-fence, (k.invalidate, (k.validate, (k.remove, (k.leave, (k.open-ledger, tt)))))))))))))))))),
+    (k.reclaim, (k.global-fence, (k.local_fence, (k.create, (k.finalize, (k.destroy, (k.region, (k.pool, (k.measured, (k.zeros, (k.vcpu, (k.enter, (k.tvm_fence, (k.invalidate, (k.validate, (k.remove, (k.leave, (k.open_ledger, tt)))))))))))))))))),
   )
 
 -- ---- none of the conditions

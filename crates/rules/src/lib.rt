@@ -1,7 +1,10 @@
 // What a call is asked with and answered, and a page record. The definitions of specs/ and the code share these types.
+
+#![tactic(auto)]
+
 pub mod tables;
 
-#[derive(Drop)]
+#[derive(Clone, Copy)]
 pub struct Call {
     pub number: u64,
     pub hart: u64,
@@ -15,7 +18,7 @@ pub struct Call {
 
 // What an argument of a call is. HostBase is the address of ordinary pages (1's base, 11's source); FreeBase that of free pages (the base of
 // 2, 10 and 12, 5's state page, 11's dest, 14's page).
-#[derive(Drop)]
+#[derive(Clone, Copy)]
 pub enum Role {
     Tvm,
     Vcpu,
@@ -31,13 +34,13 @@ pub enum Role {
 }
 
 // An accepted call's value, or the number of the refusal.
-#[derive(Drop)]
+#[derive(Clone, Copy)]
 pub enum Answer {
     Accepted(u64),
     Refused(u64),
 }
 
-#[derive(Drop)]
+#[derive(Clone, Copy)]
 pub struct Page {
     pub kind: u8,
     pub slot: u8,

@@ -1,4 +1,7 @@
 // A set of small numbers in the binary digits of a word: of numbers below 8 in a byte, of numbers below 64 in a u64.
+
+#![tactic(auto)]
+
 ghost use Rattle.std.specs.Prelude.{◌≡◌, ◌<◌, ◌≤◌};
 ghost use Rattle.sets.specs.Look.{count};
 ghost use Rattle.sets.specs.Set.{member, with, without, full};

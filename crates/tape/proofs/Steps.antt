@@ -53,14 +53,14 @@ pub is_good : (s : List ℕ) (at : ℕ) → at + 52 ≤ length s → marked s at
 is_good s at l m = rw (lt-leb (length s) at (omega arith), le-ltb (length s - at) 52 (omega arith), m)
 
 pub passed : Passed
-passed s at call hart next p = let g = good s at call hart next p in (g.next-at, omega arith)
+passed s at call hart next p = let g = good s at call hart next p in (g.next_at, omega arith)
 
--- a step whose tag is not a record's stops, and has no argument bytes
-pub stops : (r : Step) → OneOf (0 ∷ 1 ∷ 2 ∷ []) (tag_of S.the_type r) → Stops r
+-- a step that is no record stops, and has no argument bytes
+pub stops : (r : Step) → ((c h n : ℕ) → r ≡ Record c h n → ⊥) → Stops r
 stops End k = tt
 stops Short k = tt
 stops Mark k = tt
-stops (Record c h n) k = ⊎_elim (λ e. omega arith) (λ k'. ⊎_elim (λ e. omega arith) (λ e. omega arith) k') k
+stops (Record c h n) k = absurd (k c h n refl)
 
 pub no_part : (r : Step) (part : List ℕ) → Stops r → [] ≡ part_of r part
 no_part End part k = refl

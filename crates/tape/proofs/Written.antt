@@ -89,7 +89,7 @@ record_back s at call hart next h p =
     let second : 86 ≡ get_or s (at + 1) 0 = sym (eqb-true (get_or s (at + 1) 0) 86 (and_right (eqb (get_or s at 0) 67) (eqb (get_or s (at + 1) 0) 86) g.is-marked)) in
     let eight : (j : ℕ) → bytes 8 (little (from 8 s at j)) ≡ from 8 s at j = λ j. bytes-little 8 s at j h in
     ap (λ (l : List ℕ). written (call_of call hart l)) args_are
-    ∙ (λ x. first x ∷ second x ∷ g.call_at x ∷ g.hart-at x ∷ eight 4 x ++ (eight 12 x ++ (eight 20 x ++ (eight 28 x ++ (eight 36 x ++ eight 44 x)))))
+    ∙ (λ x. first x ∷ second x ∷ g.call_at x ∷ g.hart_at x ∷ eight 4 x ++ (eight 12 x ++ (eight 20 x ++ (eight 28 x ++ (eight 36 x ++ eight 44 x)))))
     ∙ sym all_are
 
 pub read-is-written : ReadIsWritten

@@ -4,7 +4,7 @@ ghost use Rattle.tape.specs.Tape.{args_at, step_of, moved_on, went_at};
 
 use super::record::{Step, after, args_at, step_at};
 
-#[derive(Drop)]
+#[derive(Clone, Copy)]
 pub struct Reader<'a> {
     pub tape: &'a [u8],
     pub at: usize,
@@ -21,7 +21,7 @@ pub fn next<'s, 'a>(r: &'s mut Reader<'a>) -> Step
 }
 
 // A step with the argument bytes of its record, lent on for as long as the tape is. (No enum can hold a reference.)
-#[derive(Drop)]
+#[derive(Clone, Copy)]
 pub struct Taken<'a> {
     pub step: Step,
     pub args: &'a [u8],
@@ -42,7 +42,7 @@ pub fn take<'s, 'a>(r: &'s mut Reader<'a>) -> Taken<'a>
 }
 
 // A step and the place after it, without the reference: what a plain caller has of a reader.
-#[derive(Drop)]
+#[derive(Clone, Copy)]
 pub struct Went {
     pub step: Step,
     pub at: usize,

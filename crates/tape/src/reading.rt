@@ -5,7 +5,7 @@ ghost use Rattle.tape.specs.Tape.{run_of};
 use super::reader::read_at;
 use super::record::Step;
 
-#[derive(Drop)]
+#[derive(Clone, Copy)]
 pub struct Run {
     pub records: usize,
     pub end: Step,

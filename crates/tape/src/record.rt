@@ -4,7 +4,7 @@ ghost use Rattle.tape.specs.Tape.{step_at, after_of, args_at, word, call_of};
 
 use rules::Call;
 
-#[derive(Drop)]
+#[derive(Clone, Copy)]
 pub enum Step {
     // Nothing left.
     End,

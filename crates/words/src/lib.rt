@@ -1,5 +1,8 @@
 // The ledger's words, lent: 426 of 32 bits at constant offsets, all zero a ledger that is not open. Nothing else knows an offset: words are read
 // into small typed values here and written from them.
+
+#![tactic(auto)]
+
 pub mod cells;
 pub mod parts;
 pub mod sizes;

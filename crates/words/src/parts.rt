@@ -23,7 +23,7 @@ const PLACES: usize = 290;
 
 const MARKS: usize = 298;
 
-#[derive(Drop)]
+#[derive(Clone, Copy)]
 pub struct Region {
     pub first: u32,
     pub pages: u32,
@@ -125,7 +125,7 @@ pub fn set_region(l: &mut Words, k: u64, i: u64, r: Region)
 }
 
 // Where a hart is.
-#[derive(Drop)]
+#[derive(Clone, Copy)]
 pub enum Place {
     Outside,
     Inside { slot: u32, vcpu: u32 },

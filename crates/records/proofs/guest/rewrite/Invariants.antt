@@ -1,0 +1,24 @@
+use Prim.Native.Nat.{◌+◌, ◌-◌, ◌≤◌}
+use mathlib.Core.Path.{◌≡◌, refl, sym, ◌∙◌, ap}
+use mathlib.Core.Logic.{⊎_elim}
+use mathlib.Core.Bool.{true, false}
+use native.Mathlib.Omega.{arith}
+use lib.ListN.{length}
+use borrow.Author.Rules.{rules}
+use borrow.Author.Tests.{le-ltb}
+use Rattle.rules.specs.declared.Page.{Page}
+use Rattle.rules.specs.Page.{is_meant}
+use Rattle.rules.specs.Encoding.{pages_of}
+use Rattle.records.specs.Passes.{is_new, noted, becomes}
+use Rattle.records.proofs.Meant.{Seen, seen_none, new_is, seen_next, tally, tally_none, tally_new, tally_old, room, none_left}
+use Rattle.records.proofs.WritePass.{up_to, pass_none, pass_put, pass_skip, at_hand, pass_end}
+use Rattle.records.proofs.guest.rewrite.Given as goal
+
+abbrev pub invariant-loop-i : goal.invariant-loop-i
+invariant-loop-i l =
+    (l.i ≤ l.n) × (length l.t ≡ length l.initial.t)
+    × (pages_of l.t ≡ up_to (pages_of l.initial.t) (is_meant (pages_of l.initial.t) l.n l.slot l.first l.count) (λ j. becomes l.kind l.slot l.version ((pages_of l.initial.t).page j)) l.i)
+    × Seen (pages_of l.initial.t) l.slot l.first l.count l.i l.seen × (l.left + tally l.count l.seen ≡ l.count)
+
+abbrev pub decreases-loop-i : goal.decreases-loop-i
+decreases-loop-i l = l.n - l.i

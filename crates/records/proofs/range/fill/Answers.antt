@@ -1,0 +1,41 @@
+-- `records::range::fill` meets its contract: a pass that writes every record of its part.
+-- Assumes nothing.
+use Prim.Native.Nat.{◌≤◌, ◌-◌, ◌*◌}
+use mathlib.Core.Path.{◌≡◌, refl, ◌∙◌, ap}
+use mathlib.Core.Bool.{Bool, true}
+use native.Mathlib.Nat.{mul-le-mul_left}
+use native.Mathlib.Omega.{arith}
+use lib.Dec.{ltb}
+use lib.ListN.{length}
+use borrow.Author.Rules.{rules}
+use Rattle.sets.proofs.Bools.{and_true}
+use Rattle.rules.specs.Encoding.{pages_of}
+use Rattle.records.specs.Passes.{stepped}
+use Rattle.records.proofs.WritePass.{up_to, pass_none, pass_put, over_ext}
+use Rattle.records.proofs.range.fill.Goals as goal
+
+pub loop-i-init : goal.loop-i-init
+loop-i-init c = (search rules, refl, pass_none _ _ _)
+
+pub page_of-requires : goal.page_of-requires
+page_of-requires c =
+    let x = c.args in
+    let l : c.loop-i.i ≤ x.count = omega arith in
+    omega (arith, c.requires.1, mul-le-mul_left x.step l)
+
+pub loop-i-preserved : goal.loop-i-preserved
+loop-i-preserved c =
+    let x = c.args in (
+      omega arith,
+      omega (arith, c.write.auto.0),
+      c.write.ensures
+          ∙ rw c.page_of.ensures (pass_put (pages_of x.part.now) (λ j. true) (stepped x.p x.step) c.loop-i.i _ c.loop-i.invariant.2 refl),
+    )
+
+-- OLD GOAL same-length: no such goal now
+-- same_length c = c.before.loop.invariant.1
+
+pub returns : goal.returns
+returns c =
+    let e : c.loop-i.i ≡ c.args.count = omega arith in
+    c.loop-i.invariant.2 ∙ over_ext _ _ _ _ (λ j. and_true (ltb j c.loop-i.i) ∙ ap (ltb j) e)

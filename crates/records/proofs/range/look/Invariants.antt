@@ -1,0 +1,20 @@
+use Prim.Native.Nat.{◌≤◌, ◌-◌, ◌+◌}
+use mathlib.Core.Path.{◌≡◌, refl, sym, ◌∙◌, ap}
+use mathlib.Core.Bool.{Bool, false, not, ◌||◌}
+use native.Mathlib.Omega.{arith}
+use borrow.Author.Rules.{rules}
+use borrow.Author.Tests.{not-false}
+use Rattle.sets.specs.Look.{any}
+use Rattle.sets.proofs.Looks.{any_hit, any_more, any_next}
+use Rattle.rules.specs.declared.Page.{Page}
+use Rattle.rules.specs.Encoding.{pages_of}
+use Rattle.fences.specs.Trackers.{global_of}
+use Rattle.records.specs.Passes.{wanted, unfinished, range_look}
+use Rattle.records.proofs.range.look.Given as goal
+
+abbrev pub invariant-loop-i : goal.invariant-loop-i
+invariant-loop-i l =
+    (l.i ≤ l.count) × (any (λ j. not (wanted l.host ((pages_of l.t).page (l.first + j)).kind)) l.i ≡ false) × (l.waits ≡ any (λ j. unfinished (global_of l.fence) ((pages_of l.t).page (l.first + j))) l.i)
+
+abbrev pub decreases-loop-i : goal.decreases-loop-i
+decreases-loop-i l = l.count - l.i

@@ -1,0 +1,7 @@
+use borrow.Author.Rules.{rules}
+use Rattle.rules.specs.Encoding.{view_of}
+use Rattle.words.proofs.parts.region_at.Goals as goal
+
+pub returns : goal.returns
+unfolding view_of
+returns c = rw (c.of_slot-first.ensures, c.of_slot-pages.ensures)

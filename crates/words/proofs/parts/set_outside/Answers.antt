@@ -1,0 +1,8 @@
+use borrow.Author.Rules.{rules}
+use mathlib.Core.Path.{◌∙◌, ap}
+use Rattle.rules.specs.Encoding.{read, view_of}
+use Rattle.rules.proofs.Views.{view-place}
+use Rattle.words.proofs.parts.set_outside.Goals as goal
+
+pub returns : goal.returns
+returns c = ap view_of c.put.ensures ∙ view-place (read c.args.l.now) c.args.h 0 c.requires

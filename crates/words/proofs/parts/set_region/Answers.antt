@@ -1,0 +1,12 @@
+use borrow.Author.Rules.{rules}
+use Prim.Native.Nat.{◌+◌, ◌*◌}
+use mathlib.Core.Path.{◌∙◌, ap}
+use Rattle.sets.specs.Terms.{put}
+use Rattle.rules.specs.Encoding.{read, view_of}
+use Rattle.rules.proofs.Views.{view-region}
+use Rattle.words.proofs.parts.set_region.Goals as goal
+
+pub returns : goal.returns
+returns c =
+    let x = c.args in
+    ap view_of (c.put-2.ensures ∙ ap (put (162 + (8 * x.k + x.i)) x.r.pages) c.put.ensures) ∙ view-region (read x.l.now) x.k x.r.first c.requires.0 x.i x.r.pages c.requires.1

@@ -1,0 +1,7 @@
+use borrow.Author.Rules.{rules}
+use Rattle.rules.specs.Encoding.{view_of}
+use Rattle.words.proofs.sizes.harts.Goals as goal
+
+pub returns : goal.returns
+unfolding view_of
+returns c = rw c.word-x.ensures
