@@ -4,19 +4,19 @@ use borrow.Author.Rules.{rules}
 use Rattle.lines.proofs.line.bad.Goals as goal
 
 pub noted-requires : goal.noted-requires
-noted-requires c = rw c.enum_told.given.1 at c.requires
+noted-requires c = rw c.in-Short.is at c.requires
 
 pub noted-requires-in-Mark : goal.noted-requires-in-Mark
-noted-requires-in-Mark c = rw c.enum_told-in-Mark-1.given.1 at c.requires
+noted-requires-in-Mark c = rw c.in-Mark.is at c.requires
 
 pub returns-in-Short : goal.returns-in-Short
-returns-in-Short c = rw c.enum_told.given.1 c.noted.ensures
+returns-in-Short c = rw c.in-Short.is c.noted.ensures
 
 pub returns-in-Mark : goal.returns-in-Mark
-returns-in-Mark c = rw c.enum_told-in-Mark-1.given.1 c.noted-in-Mark.ensures
+returns-in-Mark c = rw c.in-Mark.is c.noted-in-Mark.ensures
 
 pub returns-in-End : goal.returns-in-End
-returns-in-End c = rw c.enum_told-in-End-1.given.1 (none _ _)
+returns-in-End c = rw c.in-End.is (none _ _)
 
 pub returns-in-Record : goal.returns-in-Record
-returns-in-Record c = rw c.enum_told-in-Record-1.given.1 (none _ _)
+returns-in-Record c = rw c.in-Record.is (none _ _)

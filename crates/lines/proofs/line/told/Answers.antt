@@ -7,8 +7,6 @@ use Rattle.lines.proofs.Signs.{held}
 use borrow.Author.Rules.{rules}
 use Rattle.lines.proofs.line.told.Goals as goal
 
-error-written c = rw (held c.before.before.before.args.error c.before.before.before.ranges.error) at c.signed.ensures
-
 pub signed-error_end-requires : goal.signed-error_end-requires
 signed-error_end-requires c =
     let e = signed c.args.error in
@@ -19,17 +17,17 @@ pub put-blank_end-requires : goal.put-blank_end-requires
 put-blank_end-requires c =
     let e = signed c.args.error in
     let v = decimal c.args.value in
-    omega (arith, room blank (error-written @@After-signed@@) (omega (arith, c.requires, shorter (e ++ blank) v, shorter (e ++ blank ++ v) newline)))
+    omega (arith, room blank (rw (held c.args.error c.ranges.error) at c.signed-error_end.ensures) (omega (arith, c.requires, shorter (e ++ blank) v, shorter (e ++ blank ++ v) newline)))
 
 pub decimal-value_end-requires : goal.decimal-value_end-requires
 decimal-value_end-requires c =
     let e = signed c.args.error in
     let v = decimal c.args.value in
-    room v (joined (error-written @@After-signed@@) c.put-blank_end.ensures) (omega (arith, c.requires, shorter (e ++ blank ++ v) newline))
+    room v (joined (rw (held c.args.error c.ranges.error) at c.signed-error_end.ensures) c.put-blank_end.ensures) (omega (arith, c.requires, shorter (e ++ blank ++ v) newline))
 
 pub put-requires : goal.put-requires
-put-requires c = omega (arith, room newline (joined (joined (error-written @@After-signed@@) c.put-blank_end.ensures) c.decimal-value_end.ensures) c.requires)
+put-requires c = omega (arith, room newline (joined (joined (rw (held c.args.error c.ranges.error) at c.signed-error_end.ensures) c.put-blank_end.ensures) c.decimal-value_end.ensures) c.requires)
 
 pub returns : goal.returns
 returns c =
-    joined (joined (joined (error-written @@After-signed@@) c.put-blank_end.ensures) c.decimal-value_end.ensures) c.put.ensures
+    joined (joined (joined (rw (held c.args.error c.ranges.error) at c.signed-error_end.ensures) c.put-blank_end.ensures) c.decimal-value_end.ensures) c.put.ensures

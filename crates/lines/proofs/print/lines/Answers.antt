@@ -18,6 +18,16 @@ use Rattle.lines.proofs.Sizes.{bad-size}
 use Rattle.lines.proofs.Printing.{Printing, begun, more, ending, one_fits, small-number}
 use Rattle.lines.proofs.print.lines.Goals as goal
 
+-- a record was read, and the place is past it
+was_record : (c : goal.After-slice_known-in-loop-at-2-1) → step_at c.args.tape.now c.loop-at.at ≡ Record c.in-Record.call c.in-Record.hart c.in-Record.next
+was_record c = sym (ap (λ (x : Went). x.step) c.read_at-went.ensures) ∙ c.in-Record.is
+
+passed_by : (c : goal.After-slice_known-in-loop-at-2-1) → c.read_at-went.result.at ≡ c.loop-at.at + 52
+passed_by c =
+    let r = c.in-Record in
+    ap (λ (x : Went). x.at) c.read_at-went.ensures ∙ ap (λ (t : Step). after_of t c.loop-at.at) (was_record c)
+    ∙ (passed c.args.tape.now c.loop-at.at r.call r.hart r.next (was_record c)).0
+
 pub loop-at-init : goal.loop-at-init
 loop-at-init c = (begun c.args.tape.now c.args.out.now c.args.ledger.now c.args.table.now, refl)
 
@@ -28,11 +38,7 @@ bad-requires c =
     let t = c.requires.0 in
     one_fits i.invariant.0 _ (bad-size i.number w.result.step (small-number i.invariant.0 t)) t c.requires.1
 
--- OLD GOAL same-length: no such goal now
--- same_length c = c.before.before.before.before.before.before.before.loop.invariant.1
 
--- OLD GOAL same-length-2: no such goal now
--- same-length-2 c = kept c.before.before.bad.ensures ∙ kept c.before.before.before.before.before.before.before.loop.invariant.0.written
 
 pub returns-in_default : goal.returns-in_default
 returns-in_default c =
@@ -40,46 +46,33 @@ returns-in_default c =
     let g = c.loop-at.invariant.0 in
     let p = c.requires in
     let b = c.bad.ensures in (
-      ending g w.result.step (sym (ap (λ (x : Went). x.step) w.ensures)) (stops w.result.step c.in_default.keys2) b,
+      ending g w.result.step (sym (ap (λ (x : Went). x.step) w.ensures)) (stops w.result.step c.in_default.not-Record) b,
       omega (arith, b.place, kept g.written, one_fits g _ (bad-size c.loop-at.number w.result.step (small-number g p.0)) p.0 p.1),
     )
-
-pub overflow_cast-call : goal.overflow_cast-call
-overflow_cast-call c = record { fits = omega (arith, c.known_told-1.given.1.0) }
 
 pub line-end-requires : goal.line-end-requires
 line-end-requires c =
     let g = c.loop-at.invariant.0 in (
       one_fits g 33 (omega arith) c.requires.0 c.requires.1,
       small-number g c.requires.0,
-      omega (arith, c.known_told-1.given.1.0),
+      search rules,
     )
 
 pub overflow_add-number : goal.overflow_add-number
 overflow_add-number c = let i = c.loop-at in omega (arith, i.invariant.0.place, i.invariant.0.within, c.requires.0)
 
-again c =
-    let tape = c.before.before.before.before.before.before.before.before.before.before.before.before.before.before.before.before.before.before.args.tape.now in
-    let i = c.before.before.before.before.before.before.before.before.before.before.before.before.before.before.loop in
-    let w = c.before.before.before.before.before.before.before.before.before.before.before.before.read_at in
-    let f = c.before.before.before.before.before.before.before.before.before.before.step.given.0 in
-    let d = c.before.before.line.ensures in
-    let p : step_at tape i.at ≡ Record f.0 f.1.0 f.1.1.0 = sym (ap (λ (x : Went). x.step) w.ensures) ∙ c.before.before.before.before.before.before.before.before.before.before.step.given.1 in
-    let e : w.result.at ≡ i.at + 52 =
-    ap (λ (x : Went). x.at) w.ensures ∙ ap (λ (t : Step). after_of t i.at) p ∙ (passed tape i.at f.0 f.1.0 f.1.1.0 p).0 in
-    rw e (more i.invariant.0 f.0 f.1.0 f.1.1.0 p c.before.before.before.before.before.before.answered.ensures d.0 (omega (arith, d.0.place, d.1)))
-
 pub loop-at-smaller : goal.loop-at-smaller
-loop-at-smaller c = let g = again c in let h = c.loop-at.invariant.0 in omega (arith, g.place, g.within, h.place)
+loop-at-smaller c = let e = passed_by c in let h = c.loop-at.invariant.0 in let t = c.loop-at-test.true in omega arith
 
 pub loop-at-preserved : goal.loop-at-preserved
-loop-at-preserved c = (again c, c.answered-answer.auto.1.1.1.1.1.0 ∙ c.loop-at.invariant.1)
-
--- OLD GOAL same-length-3: no such goal now
--- same-length-3 c = c.before.loop.invariant.1
-
--- OLD GOAL same-length-4: no such goal now
--- same-length-4 c = kept c.before.loop.invariant.0.written
+loop-at-preserved c =
+    let i = c.loop-at in
+    let r = c.in-Record in
+    let d = c.line-end.ensures in
+    (
+      rw (passed_by c) (more i.invariant.0 r.call r.hart r.next (was_record c) c.answered-answer.ensures d.0 (omega (arith, d.0.place, d.1))),
+      omega (arith, c.answered-answer.auto.table, i.invariant.1),
+    )
 
 pub returns : goal.returns
 returns c =
