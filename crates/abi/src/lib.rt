@@ -1,4 +1,4 @@
-// The ledger for C: one function over `call`. include/roadbellow.h declares it.
+// The ledger for C: one function over `call`. `abi_c` exports it.
 
 #![tactic(auto)]
 
@@ -16,8 +16,7 @@ pub struct Reply {
     pub value: u64,
 }
 
-#[unsafe(no_mangle)]
-pub extern "C" fn roadbellow_call(
+pub fn roadbellow_call(
     ledger: &mut Words,
     table: &mut [u8],
     number: u64,

@@ -1,7 +1,7 @@
 // Refusals 1 to 4, which look at no record.
 ghost use Rattle.std.specs.Prelude.{◌≡◌, ◌<◌, get_or, length};
 ghost use Rattle.sets.specs.Set.{member};
-ghost use Rattle.rules.specs.Page.{fits as fitsTable};
+ghost use Rattle.rules.specs.Page.{fits as fits_table};
 ghost use Rattle.rules.specs.Ledger.{is_open};
 ghost use Rattle.rules.specs.Tables.{row_of};
 ghost use Rattle.rules.specs.Refusals as n;
@@ -53,7 +53,7 @@ fn size_of(t: &[u8]) -> u64
 }
 
 fn fits(t: &[u8], n: u64) -> bool
-    ensures { result ≡ fitsTable (pages_of t.now) n }
+    ensures { result ≡ fits_table (pages_of t.now) n }
 {
     let len = size_of(t);
     (len / 8 == n) & (len % 8 == 0)

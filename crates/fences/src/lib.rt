@@ -5,7 +5,7 @@
 
 ghost use Rattle.std.specs.Prelude.{◌≡◌, ◌+◌, ◌<◌, min};
 ghost use Rattle.rules.specs.Fence.{done, number};
-ghost use Rattle.rules.specs.Ledger.{flushes as flushesAt};
+ghost use Rattle.rules.specs.Ledger.{flushes as flushes_at};
 ghost use Rattle.rules.specs.Encoding.{bits};
 ghost use Rattle.fences.specs.Trackers.{global_of, tvm_of, tracker_at, mark_of, global_begun, global_struck, tvm_begun, tvm_struck, tvm_ended};
 
@@ -120,7 +120,7 @@ pub fn tvm_ended(t: TvmTracker) -> TvmTracker
 
 // Entry flushes exactly when the hart's mark is not the slot's version.
 pub fn flushes(mark: Mark, version: TvmVersion) -> bool
-    ensures { result ≡ flushesAt (mark_of mark) version.0 }
+    ensures { result ≡ flushes_at (mark_of mark) version.0 }
 {
     match mark {
         Mark::Never => true,

@@ -2,7 +2,7 @@
 ghost use Rattle.std.specs.Prelude.{◌≡◌, true};
 ghost use Rattle.sets.specs.Terms.{row};
 ghost use Rattle.rules.specs.declared.Role.TheVariants.{FreeBase};
-ghost use Rattle.rules.specs.Calls.{names as namesRole, moves};
+ghost use Rattle.rules.specs.Calls.{names as names_role, moves};
 ghost use Rattle.rules.specs.Effects.{table};
 ghost use Rattle.rules.specs.Encoding.{view, pages_of};
 ghost use Rattle.door.specs.Ready.{Ready};
@@ -18,7 +18,7 @@ use words::{Words, parts, sizes};
 
 // 2, 5, 10, 14; and 11 and 12.
 fn on_free(l: &Words, t: &mut [u8], q: Call, a: &[u64; 12], pages: u64)
-    requires { Ready l.now t.old q a.now pages × (namesRole FreeBase q ≡ true) }
+    requires { Ready l.now t.old q a.now pages × (names_role FreeBase q ≡ true) }
     ensures { pages_of t.new ≡ table (view l.now) (pages_of t.old) q }
 {
     let free = a[FREE];

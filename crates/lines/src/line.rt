@@ -1,8 +1,8 @@
 // The lines of document 01.
 ghost use Rattle.std.specs.Prelude.{◌+◌, ◌^◌, ◌<◌, ◌≤◌, length, ◌++◌};
 ghost use Rattle.lines.specs.Text.{Written, blank};
-ghost use Rattle.lines.specs.Text.{decimal as Text·decimal};
-ghost use Rattle.lines.specs.Lines.{told as Lines·told, line as Lines·line, noted as Lines·noted, bad as Lines·bad};
+ghost use Rattle.lines.specs.Text.{decimal as text_decimal};
+ghost use Rattle.lines.specs.Lines.{told as lines_told, line as lines_line, noted as lines_noted, bad as lines_bad};
 
 use super::text::{decimal, put, signed, word};
 use rules::Answer;
@@ -11,8 +11,8 @@ use tape::record::Step;
 
 // A number and a blank.
 fn field(out: &mut [u8], at: usize, n: u64) -> usize
-    requires { at + length (Text·decimal n ++ blank) ≤ length out.old }
-    ensures { Written (Text·decimal n ++ blank) out.old at result out.new }
+    requires { at + length (text_decimal n ++ blank) ≤ length out.old }
+    ensures { Written (text_decimal n ++ blank) out.old at result out.new }
 {
     let end = decimal(out, at, n);
     put(out, end, b' ')
@@ -20,8 +20,8 @@ fn field(out: &mut [u8], at: usize, n: u64) -> usize
 
 // The error and the value, to the line's end.
 fn told(out: &mut [u8], at: usize, error: i64, value: u64) -> usize
-    requires { at + length (Lines·told error value) ≤ length out.old }
-    ensures { Written (Lines·told error value) out.old at result out.new }
+    requires { at + length (lines_told error value) ≤ length out.old }
+    ensures { Written (lines_told error value) out.old at result out.new }
 {
     let error_end = signed(out, at, error);
     let blank_end = put(out, error_end, b' ');
@@ -32,7 +32,7 @@ fn told(out: &mut [u8], at: usize, error: i64, value: u64) -> usize
 // "number from 1, call, error, value, single blanks": with no more than 4 and 3 digits before them, 33 bytes at most.
 pub fn line(out: &mut [u8], at: usize, number: u64, call: u64, answer: Answer) -> usize
     requires { (at + 33 ≤ length out.old) × (number < 10 ^ 4) × (call < 10 ^ 3) }
-    ensures { Written (Lines·line number call answer) out.old at result out.new × (result ≤ at + 33) }
+    ensures { Written (lines_line number call answer) out.old at result out.new × (result ≤ at + 33) }
 {
     let error = error_of(answer);
     let value = value_of(answer);
@@ -43,8 +43,8 @@ pub fn line(out: &mut [u8], at: usize, number: u64, call: u64, answer: Answer) -
 
 // A number and a word, as a line.
 fn noted(out: &mut [u8], at: usize, number: u64, w: &[u8]) -> usize
-    requires { at + length (Lines·noted number w.now) ≤ length out.old }
-    ensures { Written (Lines·noted number w.now) out.old at result out.new }
+    requires { at + length (lines_noted number w.now) ≤ length out.old }
+    ensures { Written (lines_noted number w.now) out.old at result out.new }
 {
     let number_end = field(out, at, number);
     let word_end = word(out, number_end, w);
@@ -53,8 +53,8 @@ fn noted(out: &mut [u8], at: usize, number: u64, w: &[u8]) -> usize
 
 // "A bad record prints its number and `short` or `mark`"; where the tape ends there is none.
 pub fn bad(out: &mut [u8], at: usize, number: u64, step: Step) -> usize
-    requires { at + length (Lines·bad number step) ≤ length out.old }
-    ensures { Written (Lines·bad number step) out.old at result out.new }
+    requires { at + length (lines_bad number step) ≤ length out.old }
+    ensures { Written (lines_bad number step) out.old at result out.new }
 {
     match step {
         Step::Short => noted(out, at, number, b"short"),

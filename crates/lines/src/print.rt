@@ -3,7 +3,7 @@ ghost use Rattle.std.specs.Prelude.{◌≡◌, ◌≤◌, length};
 ghost use Rattle.rules.specs.Encoding.{Called, state_of};
 ghost use Rattle.tape.specs.Tape.{args_at, call_of, reading};
 ghost use Rattle.lines.specs.Text.{Written};
-ghost use Rattle.lines.specs.Lines.{zeros, lines_from, Printed, handed as Lines·handed};
+ghost use Rattle.lines.specs.Lines.{zeros, lines_from, Printed, handed as lines_handed};
 
 use super::line::{bad, line};
 use super::text::{put, word};
@@ -59,7 +59,7 @@ fn lines(tape: &[u8], ledger: &mut Words, table: &mut [u8], out: &mut [u8]) -> u
 
 // "as many as the first record's a1 (0 if above 4,096)"
 fn handed(tape: &[u8]) -> usize
-    ensures { (result ≡ Lines·handed (reading tape.now).calls) × (result ≤ 4096) }
+    ensures { (result ≡ lines_handed (reading tape.now).calls) × (result ≤ 4096) }
 {
     let records = arg(args_at(tape, 0), 1);
     if records <= 4096 { records as usize } else { 0 }

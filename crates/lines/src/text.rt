@@ -1,6 +1,6 @@
 // Text into lent bytes, from an offset on. Each function answers the offset after what it wrote.
 ghost use Rattle.std.specs.Prelude.{◌≡◌, [], ◌∷◌, ◌+◌, ◌%◌, ◌≤◌, ◌<◌, nat_abs, length};
-ghost use Rattle.lines.specs.Text.{decimal as Text·decimal, signed as Text·signed, Written};
+ghost use Rattle.lines.specs.Text.{decimal as text_decimal, signed as text_signed, Written};
 
 pub fn put(out: &mut [u8], at: usize, b: u8) -> usize
     requires { at < length out.old }
@@ -19,8 +19,8 @@ fn ones(n: u64) -> u8
 
 // All but the ones first.
 pub fn decimal(out: &mut [u8], at: usize, n: u64) -> usize
-    requires { at + length (Text·decimal n) ≤ length out.old }
-    ensures { Written (Text·decimal n) out.old at result out.new }
+    requires { at + length (text_decimal n) ≤ length out.old }
+    ensures { Written (text_decimal n) out.old at result out.new }
 {
     if n < 10 {
         put(out, at, ones(n))
@@ -38,8 +38,8 @@ fn size(n: i64) -> u64
 }
 
 pub fn signed(out: &mut [u8], at: usize, n: i64) -> usize
-    requires { at + length (Text·signed n) ≤ length out.old }
-    ensures { Written (Text·signed n) out.old at result out.new }
+    requires { at + length (text_signed n) ≤ length out.old }
+    ensures { Written (text_signed n) out.old at result out.new }
 {
     if n < 0 {
         let end = put(out, at, b'-');

@@ -2,7 +2,7 @@
 ghost use Rattle.std.specs.Prelude.{◌≡◌, ◌+◌, ◌*◌, ◌<◌};
 ghost use Rattle.std.proofs.Math.Option.{some};
 ghost use Rattle.sets.specs.Terms.{put as store};
-ghost use Rattle.rules.specs.Ledger.{with_global, with_slot, with_hart, with_fence, slot as slotWith, inside, outside, flushes};
+ghost use Rattle.rules.specs.Ledger.{with_global, with_slot, with_hart, with_fence, slot as slot_with, inside, outside, flushes};
 ghost use Rattle.rules.specs.Encoding.{view, read, part, bits};
 ghost use Rattle.fences.specs.Trackers.{global_of, tvm_of};
 ghost use Rattle.words.specs.Parts.{Packed, region_of, place_is};
@@ -89,7 +89,7 @@ pub fn set_fence(l: &mut Words, k: u64, t: TvmTracker)
 // A fence with the vCPUs that are made from now on.
 pub fn set_made(l: &mut Words, k: u64, t: TvmTracker, vcpus: u8)
     requires { k < 16 }
-    ensures { view l.new ≡ with_slot k (slotWith ((view l.old).slot k).phase (tvm_of t) (bits vcpus) ((view l.old).slot k).region) (view l.old) }
+    ensures { view l.new ≡ with_slot k (slot_with ((view l.old).slot k).phase (tvm_of t) (bits vcpus) ((view l.old).slot k).region) (view l.old) }
 {
     put(l, FENCES + k as usize, pack(t.version.0, t.awaited, vcpus));
 }
@@ -102,7 +102,7 @@ pub fn phase(l: &Words, k: u64) -> u32
 
 pub fn set_phase(l: &mut Words, k: u64, phase: u32)
     requires { k < 16 }
-    ensures { view l.new ≡ with_slot k (slotWith phase ((view l.old).slot k).fence ((view l.old).slot k).made ((view l.old).slot k).region) (view l.old) }
+    ensures { view l.new ≡ with_slot k (slot_with phase ((view l.old).slot k).fence ((view l.old).slot k).made ((view l.old).slot k).region) (view l.old) }
 {
     put(l, PHASES + k as usize, phase);
 }
@@ -117,7 +117,7 @@ pub fn region_at(l: &Words, k: u64, i: u64) -> Region
 
 pub fn set_region(l: &mut Words, k: u64, i: u64, r: Region)
     requires { (k < 16) × (i < 8) }
-    ensures { view l.new ≡ with_slot k (slotWith ((view l.old).slot k).phase ((view l.old).slot k).fence ((view l.old).slot k).made (store i (region_of r) ((view l.old).slot k).region)) (view l.old) }
+    ensures { view l.new ≡ with_slot k (slot_with ((view l.old).slot k).phase ((view l.old).slot k).fence ((view l.old).slot k).made (store i (region_of r) ((view l.old).slot k).region)) (view l.old) }
 {
     let at = (8 * k + i) as usize;
     put(&mut *l, FIRSTS + at, r.first);

@@ -10,7 +10,7 @@ use mir.Val.{to_z, of_z}
 use Rattle.rules.specs.declared.Answer.{Answer}
 use Rattle.rules.specs.Step.{error_of, value_of}
 use Rattle.lines.specs.Text.{decimal, blank}
-use Rattle.lines.specs.Lines.{told, line as Lines·line}
+use Rattle.lines.specs.Lines.{told, line as lines_line}
 use Rattle.lines.proofs.Writes.{joined, room, shorter}
 use Rattle.lines.proofs.Signs.{held}
 use Rattle.lines.proofs.Sizes.{line-size}
@@ -20,8 +20,8 @@ use Rattle.lines.proofs.line.line.Goals as goal
 -- what is told, as the machine holds it
 module _ (number call : ℕ) (answer : Answer) (error : ℤ) (value : ℕ) (e : error ≡ error_of answer) (v : value ≡ value_of answer) where
   -- the line, by its fields
-  text : Lines·line number call answer ≡ decimal number ++ blank ++ (decimal call ++ blank) ++ told error value
-  unfolding Lines·line
+  text : lines_line number call answer ≡ decimal number ++ blank ++ (decimal call ++ blank) ++ told error value
+  unfolding lines_line
   text = λ i. append_assoc (decimal number ++ blank) (decimal call) blank i ++ told (sym e i) (sym v i)
 
   size : number < 10 ^ 4 → call < 10 ^ 3 → value < 2 ^ 64 → length (decimal number ++ blank ++ (decimal call ++ blank) ++ told error value) ≤ 33

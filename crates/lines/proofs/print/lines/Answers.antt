@@ -38,8 +38,6 @@ bad-requires c =
     let t = c.requires.0 in
     one_fits i.invariant.0 _ (bad-size i.number w.result.step (small-number i.invariant.0 t)) t c.requires.1
 
-
-
 pub returns-in_default : goal.returns-in_default
 returns-in_default c =
     let w = c.read_at-went in
@@ -68,8 +66,7 @@ pub loop-at-preserved : goal.loop-at-preserved
 loop-at-preserved c =
     let i = c.loop-at in
     let r = c.in-Record in
-    let d = c.line-end.ensures in
-    (
+    let d = c.line-end.ensures in (
       rw (passed_by c) (more i.invariant.0 r.call r.hart r.next (was_record c) c.answered-answer.ensures d.0 (omega (arith, d.0.place, d.1))),
       omega (arith, c.answered-answer.auto.table, i.invariant.1),
     )

@@ -35,9 +35,6 @@ loop-i-preserved c =
 pub overflow_add-result : goal.overflow_add-result
 overflow_add-result c = omega arith
 
--- OLD GOAL same-length: no such goal now
--- same_length c = kept c.before.loop.invariant.1
-
 pub returns : goal.returns
 returns c =
     rw (take_all c.loop-i.i c.args.w.now (omega arith)) at c.loop-i.invariant.1

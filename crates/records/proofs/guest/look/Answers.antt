@@ -49,13 +49,12 @@ loop-i-preserved c =
     let here = c.loop-i-test.true in
     let read = c.read-p.ensures in
     elim c.if-is_first.branch [
-      then-is_first+else-p-kind+else-missing-eq0 w ↦ turn_first T x.n x.slot x.first x.count x.kind (tvm_of x.fence) c.requires.2 c.loop-i.i c.loop-i.seen _ _ _ here c.loop-i.invariant _ _ read
-      first.ensures.1 _ _ _ (sym first.ensures.0 ∙ w.if-is_first.true) w.if-p-kind.false w.missing-is (w.undone-is ∙ w.with_undone-undone.ensures)
-      (w.cut-is ∙ w.with_cut-cut.ensures)
+      | then-is_first+else-p-kind+else-missing-eq0 w ↦ turn_first T x.n x.slot x.first x.count x.kind (tvm_of x.fence) c.requires.2 c.loop-i.i c.loop-i.seen _ _ _ here c.loop-i.invariant _ _ read
+          first.ensures.1 _ _ _ (sym first.ensures.0 ∙ w.if-is_first.true) w.if-p-kind.false w.missing-is (w.undone-is ∙ w.with_undone-undone.ensures)
+          (w.cut-is ∙ w.with_cut-cut.ensures)
       | else-is_first w ↦ turn_other T x.n x.slot x.first x.count x.kind (tvm_of x.fence) c.requires.2 c.loop-i.i c.loop-i.seen _ _ _ here c.loop-i.invariant _ _ read
-      first.ensures.1 _ _ _ (sym first.ensures.0 ∙ w.if-is_first.false) w.missing-is w.undone-is w.cut-is
+          first.ensures.1 _ _ _ (sym first.ensures.0 ∙ w.if-is_first.false) w.missing-is w.undone-is w.cut-is
     ]
-
 
 pub returns-then-missing-eq0-2 : goal.returns-then-missing-eq0-2
 returns-then-missing-eq0-2 c = looked_full _ _ _ _ _ _ _ _ _ _ _ _ c.loop-i.invariant c.if-missing-eq0-2.true

@@ -81,7 +81,7 @@ loop-i-preserved c =
     let known = turn T x.n x.slot x.first x.count c.loop-i.i c.loop-i.seen _ c.loop-i.left _ _ c.requires.2 c.loop-i-test.true inv.3 inv.4 read c.is_first.ensures in
     let kept : length c.if-is_first.t ≡ length x.t.now = omega (arith, c.if-is_first.auto.t, c.loop-i.auto.t) in
     elim c.if-is_first.branch [
-      then-is_first+else-left-eq0 w ↦ (
+      | then-is_first+else-left-eq0 w ↦ (
         omega arith,
         kept,
         ap pages_of w.t-is

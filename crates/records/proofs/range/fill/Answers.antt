@@ -32,9 +32,6 @@ loop-i-preserved c =
           ∙ rw c.page_of.ensures (pass_put (pages_of x.part.now) (λ j. true) (stepped x.p x.step) c.loop-i.i _ c.loop-i.invariant.2 refl),
     )
 
-
-
-
 pub returns : goal.returns
 returns c =
     let e : c.loop-i.i ≡ c.args.count = omega arith in

@@ -25,9 +25,6 @@ bounds-t-a-7 c = simp length-set (omega arith)
 pub bounds-t-a-8 : goal.bounds-t-a-8
 bounds-t-a-8 c = simp length-set (omega arith)
 
-
-
-
 pub returns : goal.returns
 returns c =
     record_put c.args.t.now c.args.i c.args.p c.requires

@@ -28,7 +28,7 @@ loop-i-preserved c =
     let new : ℕ → Page = λ j. page 2 0 0 0 in
     let here = c.is_given.ensures ∙ ap (given x.slot) (c.read.ensures ∙ at_hand T which new c.loop-i.i _ c.loop-i.invariant.2) in
     elim c.if-is_given.branch [
-      then-is_given w ↦ (
+      | then-is_given w ↦ (
         omega arith,
         omega (arith, c.if-is_given.auto.t, c.loop-i.auto.t),
         ap pages_of w.t-is ∙ w.write.ensures ∙ pass_put T which new c.loop-i.i _ c.loop-i.invariant.2 (sym here ∙ w.if-is_given.true),

@@ -13,7 +13,6 @@ unfolding refusal
 returns-then-refuses2 c = rw (
   sym c.refuses1.ensures ∙ c.if-refuses1.false,
   sym c.refuses2.ensures ∙ c.if-refuses2.true,
-
 )
 
 pub returns-then-refuses3 : goal.returns-then-refuses3
@@ -22,7 +21,6 @@ returns-then-refuses3 c = rw (
   sym c.refuses1.ensures ∙ c.if-refuses1.false,
   sym c.refuses2.ensures ∙ c.if-refuses2.false,
   sym c.refuses3.ensures ∙ c.if-refuses3.true,
-
 )
 
 pub returns-then-refuses4 : goal.returns-then-refuses4
@@ -32,7 +30,6 @@ returns-then-refuses4 c = rw (
   sym c.refuses2.ensures ∙ c.if-refuses2.false,
   sym c.refuses3.ensures ∙ c.if-refuses3.false,
   sym c.refuses4.ensures ∙ c.if-refuses4.true,
-
 )
 
 pub sized-pages-requires : goal.sized-pages-requires
@@ -47,7 +44,6 @@ returns-then-refuses5 c = rw (
   sym c.refuses3.ensures ∙ c.if-refuses3.false,
   sym c.refuses4.ensures ∙ c.if-refuses4.false,
   sym c.refuses5.ensures ∙ c.if-refuses5.true,
-
 )
 
 pub from_6-requires : goal.from_6-requires
@@ -61,7 +57,6 @@ from_6-requires c = record {
     sym c.refuses4.ensures ∙ c.if-refuses4.false,
     sym c.refuses5.ensures ∙ c.if-refuses5.false,
   );
-
 }
 
 pub returns : goal.returns
@@ -72,5 +67,4 @@ returns c = c.from_6.ensures ∙ rw (
   sym c.refuses3.ensures ∙ c.if-refuses3.false,
   sym c.refuses4.ensures ∙ c.if-refuses4.false,
   sym c.refuses5.ensures ∙ c.if-refuses5.false,
-
 )

@@ -18,7 +18,7 @@ loop-h-preserved c =
     let p = there_of (view c.args.l.now) c.args.whole c.args.k c.args.v in
     let q : p c.loop-h.h ≡ c.is_there.result = sym (c.is_there.ensures ∙ ap (is_there c.args.whole c.args.k c.args.v) c.place_of.ensures) in
     elim c.if-is_there.branch [
-      then-is_there w ↦ (rw (w.set-is, w.insert-set.ensures) (upto_with p c.loop-h.h c.loop-h.set c.loop-h.invariant.0 (q ∙ w.if-is_there.true)), omega arith)
+      | then-is_there w ↦ (rw (w.set-is, w.insert-set.ensures) (upto_with p c.loop-h.h c.loop-h.set c.loop-h.invariant.0 (q ∙ w.if-is_there.true)), omega arith)
       | else-is_there w ↦ (rw w.set-is (upto_skip p c.loop-h.h c.loop-h.set c.loop-h.invariant.0 (q ∙ w.if-is_there.false)), omega arith)
     ]
 
