@@ -11,7 +11,7 @@ use Rattle.sets.specs.Terms.{put}
 use Rattle.sets.proofs.Bools.{by_test}
 use Rattle.sets.proofs.Laws.{member_none}
 use Rattle.rules.specs.Fence.{Harts, Tracker, strike}
-use Rattle.rules.specs.Ledger.{Ledger, Slot, Region, slot, with_slot, with_fence}
+use Rattle.rules.specs.Ledger.{Ledger, Slot, Region, with_slot, with_fence}
 use Rattle.rules.specs.Encoding.{view, view_of, bits}
 use Rattle.effects.specs.Parts.{no_region}
 

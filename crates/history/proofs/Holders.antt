@@ -19,7 +19,7 @@ use Rattle.rules.specs.Page.{Table, page, guest_page, guest_word, is_large, is_g
 use Rattle.rules.specs.Ledger.{Ledger}
 use Rattle.rules.specs.Calls.{names, arg, size, first_guest, index, free_spans}
 use Rattle.rules.specs.Refusals.{refuses11, taken, mapped, any_guest}
-use Rattle.rules.specs.Effects.{table, ledger, writes, written, mapping}
+use Rattle.rules.specs.Effects.{writes, written, mapping}
 use Rattle.rules.specs.Step.{unopened}
 use Rattle.history.specs.Demand3.{after, Held, nobody, holds, maps, is_held_by, is_given_at, gives, given, takes_back, holding, held, HoldersAgree, GivenUnheld, OneClaim}
 use Rattle.rules.proofs.Accepted.{call, by_call, Passed, guest_ends, at_number}

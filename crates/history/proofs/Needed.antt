@@ -1,16 +1,15 @@
 -- A call is refused for a page that it needs and whose version is not done, with 7 or a lower number; and one that is refused 7 needs such a page.
 -- Assumes nothing.
-use Prim.Native.Nat.{ℕ, zero, suc, ◌+◌, ◌≤◌, ◌<◌}
+use Prim.Native.Nat.{ℕ, zero, suc, ◌+◌, ◌≤◌}
 use mathlib.Core.Path.{◌≡◌, refl, sym, subst, ◌∙◌, ap}
 use mathlib.Core.Logic.{◌⊎◌, inl, inr}
-use mathlib.Core.Bool.{Bool, true, false, cond, not, ◌&&◌, ◌||◌, true≢false, false≢true, or-true}
+use mathlib.Core.Bool.{Bool, true, false, not, ◌&&◌, ◌||◌, true≢false, false≢true, or-true}
 use mathlib.Core.List.{List, [], ◌∷◌, ◌++◌}
 use native.Mathlib.Omega.{arith}
 use lib.Dec.{ltb, eqb}
 use lib.ListN.{get_or}
 use borrow.Author.Tests.{ltb-true, eqb-true, eq-eqb, not-true, not-false}
 use Rattle.sets.specs.Terms.{any_in, row, within}
-use Rattle.sets.specs.Look.{lowest}
 use Rattle.sets.proofs.Bools.{by_test, or_right, or_cases, and_left, and_right, and_off}
 use Rattle.sets.proofs.Looks.{any_one, lowest_true}
 use Rattle.sets.proofs.OneOf.{one_off}
@@ -18,16 +17,15 @@ use Rattle.rules.specs.declared.Page.{Page}
 use Rattle.rules.specs.declared.Call.{Call}
 use Rattle.rules.specs.declared.Answer.TheVariants.{Refused}
 use Rattle.rules.specs.declared.Role.TheVariants.{Tvm}
-use Rattle.rules.specs.Page.{Table, guest_page, is_mapped, claims, meant, is_meant}
+use Rattle.rules.specs.Page.{guest_page, claims, meant, is_meant}
 use Rattle.rules.specs.Fence.{done}
-use Rattle.rules.specs.Ledger.{Ledger}
-use Rattle.rules.specs.Calls.{Span, moves, arg, index, free_spans, size, first_guest}
+use Rattle.rules.specs.Calls.{moves, arg, index, free_spans, size, first_guest}
 use Rattle.rules.specs.Refusals.{early, late, lowest_of, refusal, refuses6, refuses7, any_page, any_guest, the_one, mapped}
 use Rattle.rules.specs.Step.{State, settle, step}
 use Rattle.rules.proofs.Exactly.{exactly}
 use Rattle.history.specs.Demand3.{counts_free, needs, not_done}
 use Rattle.history.proofs.Records.{Claim, claim}
-use Rattle.history.proofs.Spans.{to_range, is_of, find-number, neither_free, at_guest, Meant, meant_is}
+use Rattle.history.proofs.Spans.{to_range, is_of, find-number, neither_free, at_guest, meant_is}
 
 -- the number given is at most that of a condition that holds
 at_most : (k : ℕ) (bs : List Bool) (i : ℕ) → get_or bs i false ≡ true → (j : ℕ) × (j ≤ i) × (lowest_of (suc k) bs ≡ suc (k + j))

@@ -3,7 +3,7 @@
 use Rattle.std.specs.Prelude.{replicate}
 use Rattle.sets.specs.Terms.{ℕ, ◌≡◌, List, [], ◌∷◌, ◌++◌}
 use Rattle.rules.specs.declared.{Call.Call, Answer.Answer}
-use Rattle.rules.specs.Step.{State, step, answers, unopened}
+use Rattle.rules.specs.Step.{answers, unopened}
 use Rattle.rules.specs.Encoding.{pages_of, state_of, Called}
 use Rattle.history.specs.Demand3.{after}
 

@@ -1,7 +1,7 @@
 -- Eight bytes stored are a record put, and what a record is does not hang on other bytes.
 -- Assumes nothing.
 use Prim.Native.Nat.{ℕ, zero, suc, ◌+◌, ◌*◌, ◌/◌, ◌%◌, ◌≤◌, ◌<◌}
-use mathlib.Core.Path.{◌≡◌, refl, sym, ap, ◌∙◌, fun_ext}
+use mathlib.Core.Path.{◌≡◌, refl, ◌∙◌, fun_ext}
 use mathlib.Core.Logic.{◌⊎◌, inl, inr, ⊎_elim}
 use mathlib.Core.List.{List, [], ◌∷◌}
 use native.Mathlib.Decide.{dec_lt}
@@ -14,7 +14,7 @@ use borrow.Author.Tests.{eqb-true, eqb-false}
 use Rattle.sets.specs.Terms.{put}
 use Rattle.sets.proofs.Bools.{by_test}
 use Rattle.rules.specs.declared.Page.{Page}
-use Rattle.rules.specs.Page.{Table, page}
+use Rattle.rules.specs.Page.{page}
 use Rattle.rules.specs.Encoding.{page_at, pages_of}
 use Rattle.records.specs.Passes.{put_page}
 

@@ -15,7 +15,6 @@ use Rattle.sets.proofs.Looks.{any_next, any_one, any_hit, any_ext, not-all, coun
 use Rattle.rules.specs.declared.Page.{Page}
 use Rattle.rules.specs.Page.{Table, claims, guest_page, meant, is_meant, is_cut}
 use Rattle.rules.specs.Fence.{Tracker, done}
-use Rattle.records.specs.declared.guest.Guests.{Guests}
 use Rattle.records.specs.declared.guest.Guests.TheVariants.{Unready, Ready}
 use Rattle.records.specs.Passes.{is_new, noted, guest_look}
 use Rattle.records.proofs.Meant.{Seen, claimed, seen_none, new_is, seen_next, tally, tally_none, tally_new, tally_old, room, meant_at, all_claimed, none_left, hits, mapped-is}

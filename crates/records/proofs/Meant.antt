@@ -1,20 +1,20 @@
 -- One pass over the records, with the set of the guest pages seen, meets for each guest page of a range the record that it means.
 -- Assumes nothing.
-use Prim.Native.Nat.{ℕ, ◌+◌, ◌-◌, ◌*◌, ◌/◌, ◌≤◌, ◌<◌}
+use Prim.Native.Nat.{ℕ, ◌+◌, ◌-◌, ◌/◌, ◌≤◌, ◌<◌}
 use mathlib.Core.Path.{◌≡◌, refl, sym, ap, ◌∙◌}
-use mathlib.Core.Bool.{Bool, true, false, not, ◌&&◌, ◌||◌, cond, true≢false, false≢true}
+use mathlib.Core.Bool.{Bool, true, false, not, ◌&&◌, ◌||◌, true≢false, false≢true}
 use mathlib.Core.List.{List}
 use native.Mathlib.Omega.{arith}
-use lib.Dec.{leb, ltb, eqb}
+use lib.Dec.{ltb, eqb}
 use lib.ListN.{length, replicate, length-replicate}
-use borrow.Author.Tests.{eqb-true, eq-eqb, ne_eqb, ltb-true, lt-ltb, le-leb, leb-true, not-true, not-false}
+use borrow.Author.Tests.{eqb-true, eq-eqb, ltb-true, lt-ltb, le-leb, not-true, not-false}
 use lib.Seq.{set-get_or}
 use Rattle.sets.specs.Terms.{within}
 use Rattle.sets.specs.Set.{with}
-use Rattle.sets.specs.Look.{any, all, count, lowest}
+use Rattle.sets.specs.Look.{any, count, lowest}
 use Rattle.sets.specs.Pages.{member_in, with_in}
 use Rattle.sets.proofs.Bools.{by_test, iff, and_left, and_right, and_off, or_false}
-use Rattle.sets.proofs.Looks.{any_next, any_one, any_hit, any_ext, any_at, all_at, not-all, count_none, count_le, count-all, lowest-is, lowest_true, lowest-first, lowest-any}
+use Rattle.sets.proofs.Looks.{any_next, any_one, any_hit, any_at, all_at, count_none, count_le, count-all, lowest-is, lowest_true, lowest-first, lowest-any}
 use Rattle.sets.proofs.PageSets.{member-with_in, member_none_in, count-with_in, length-with_in}
 use Rattle.rules.specs.declared.Page.{Page}
 use Rattle.rules.specs.Page.{Table, claims, is_mapped, guest_page, meant, is_meant}

@@ -5,13 +5,13 @@ use Prim.Native.Nat.{ℕ, zero, suc, ◌+◌, ◌≤◌, ◌<◌}
 use mathlib.Core.Bool.{Bool, true, false, true≢false, false≢true}
 use mathlib.Core.List.{List, [], ◌∷◌, ◌++◌}
 use mathlib.Core.Logic.{◌↔◌}
-use mathlib.Core.Path.{◌≡◌, refl, sym, ◌∙◌, ap}
+use mathlib.Core.Path.{◌≡◌, refl, ◌∙◌, ap}
 use native.Mathlib.Omega.{arith}
 use lib.ListN.{get_or}
 use Rattle.rules.specs.Calls.{Call}
 use Rattle.rules.specs.Refusals.{early, late, lowest_of, refusal}
 use Rattle.rules.specs.Effects.{value}
-use Rattle.rules.specs.Step.{Answer, Accepted, Refused, State, settle, step}
+use Rattle.rules.specs.Step.{Accepted, Refused, State, settle, step}
 use Rattle.rules.specs.Promises.{Exactly}
 
 -- the number given is 0, or is one from k on

@@ -8,7 +8,7 @@ use lib.Dec.{ltb, eqb}
 use borrow.Author.Tests.{eqb-true, eqb-false, eq-eqb, ne_eqb, lt-ltb, le-ltb, ltb-true, ltb-false}
 use Rattle.sets.specs.Terms.{put}
 use Rattle.sets.specs.Set.{member, with, without, full}
-use Rattle.sets.proofs.Bools.{by_test, iff}
+use Rattle.sets.proofs.Bools.{by_test}
 use Rattle.sets.proofs.Laws.{member_none, member-with, member-without, member-full, ext}
 use Rattle.sets.proofs.Looks.{any_at, any_off}
 use Rattle.rules.specs.Fence.{Harts, someone}

@@ -7,7 +7,7 @@ use native.Mathlib.Omega.{arith}
 use Rattle.rules.specs.Calls.{Call}
 use Rattle.rules.specs.Refusals.{refusal}
 use Rattle.rules.specs.Effects.{writes, table}
-use Rattle.rules.specs.Step.{Answer, Accepted, Refused, State, settle, step}
+use Rattle.rules.specs.Step.{Accepted, Refused, State, settle, step}
 use Rattle.rules.specs.Promises.{RefusedChangesNothing}
 
 by_number : (k : ℕ) (s : State) (c : Call) (n : ℕ) → (settle k s c).answer ≡ Refused n → (settle k s c).after ≡ s

@@ -1,6 +1,6 @@
 -- The encoding loses nothing, and so the promise of a call leaves one answer, one list of words and one list of bytes.
 -- Assumes nothing.
-use Prim.Native.Nat.{ℕ, zero, suc, ◌+◌, ◌-◌, ◌*◌, ◌/◌, ◌%◌, ◌^◌, ◌≤◌, ◌<◌}
+use Prim.Native.Nat.{ℕ, zero, suc, ◌+◌, ◌-◌, ◌*◌, ◌/◌, ◌%◌, ◌^◌, ◌<◌}
 use mathlib.Core.Path.{◌≡◌, refl, sym, ◌∙◌, ap, fun_ext}
 use mathlib.Core.Bool.{Bool, true, false, cond}
 use mathlib.Core.Option.{Option, none, some}
@@ -15,11 +15,10 @@ use borrow.Author.Tests.{eqb-true, eqb-false, lt-ltb}
 use Rattle.sets.proofs.Bools.{by_test}
 use Rattle.sets.proofs.Laws.{ext, member_none}
 use Rattle.rules.specs.Page.{Page, Table}
-use Rattle.rules.specs.Calls.{Call}
 use Rattle.rules.specs.Fence.{Tracker}
 use Rattle.rules.specs.Ledger.{Ledger, Place, inside, outside, start, bare, opened}
-use Rattle.rules.specs.Step.{Answer, State, step}
-use Rattle.rules.specs.Encoding.{read, part, cell, bits, tracker_of, upper, place_of, mark_of, view_of, view, page_at, pages_of, state_of, Numbers, Called}
+use Rattle.rules.specs.Step.{State}
+use Rattle.rules.specs.Encoding.{read, part, cell, bits, tracker_of, upper, place_of, mark_of, view_of, page_at, pages_of, state_of}
 use Rattle.rules.specs.Promises.{WordsKept, BytesKept, OnlyOne, RefusedWritesNothing, OthersKept, ZerosUnopened}
 use Rattle.rules.proofs.Refused.{refused_changes_nothing, unwritten}
 

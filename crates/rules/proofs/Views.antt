@@ -1,17 +1,16 @@
 -- The squares: what storing each sort of word makes of the typed ledger.
 -- Assumes nothing.
-use Prim.Native.Nat.{ℕ, ◌+◌, ◌*◌, ◌≤◌, ◌<◌}
-use mathlib.Core.Path.{◌≡◌, refl, sym, ◌∙◌, ap, fun_ext}
-use mathlib.Core.Logic.{◌⊎◌, inl, inr}
-use mathlib.Core.Bool.{Bool, true, false, cond}
+use Prim.Native.Nat.{ℕ, ◌+◌, ◌*◌, ◌<◌}
+use mathlib.Core.Path.{◌≡◌, refl, ◌∙◌, ap, fun_ext}
+use mathlib.Core.Logic.{inl, inr}
 use native.Mathlib.Omega.{arith}
 use lib.Dec.{eqb}
 use borrow.Author.Tests.{eqb-true, ne_eqb}
 use Rattle.sets.specs.Terms.{put}
 use Rattle.sets.proofs.Bools.{by_test}
-use Rattle.rules.specs.Ledger.{Ledger, Slot, Hart, Region, slot, with_slot, with_hart}
-use Rattle.rules.specs.Encoding.{part, cell, bits, tracker_of, upper, place_of, mark_of, view_of}
-use Rattle.rules.proofs.Squares.{part_in, part_out, cells, cells_in, cells_out, ledger_from, same}
+use Rattle.rules.specs.Ledger.{slot, with_slot, with_hart}
+use Rattle.rules.specs.Encoding.{part, bits, tracker_of, upper, place_of, mark_of, view_of}
+use Rattle.rules.proofs.Squares.{part_in, part_out, cells, cells_in, cells_out, same}
 
 module _ (w : ℕ → ℕ) where
   -- a word that is not the one stored

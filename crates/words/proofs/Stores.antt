@@ -1,26 +1,24 @@
 -- The words read and stored, as parts of the typed ledger.
 -- Assumes nothing.
 use Prim.Native.Nat.{ℕ, ◌+◌, ◌-◌, ◌*◌, ◌/◌, ◌%◌, ◌<◌, ◌≤◌}
-use mathlib.Core.Path.{◌≡◌, refl, sym, ◌∙◌, ap, fun_ext}
-use mathlib.Core.Bool.{Bool, true, cond}
+use mathlib.Core.Path.{◌≡◌, refl, ◌∙◌, ap, fun_ext}
+use mathlib.Core.Bool.{true}
 use mathlib.Core.List.{List}
 use mathlib.Core.Option.{some}
 use native.Mathlib.Omega.{arith}
-use native.Mathlib.Nat.{mul_comm}
 use lib.Arith.{digits_div, digits_mod}
 use lib.Dec.{ltb, eqb}
 use lib.ListN.{replicate}
-use borrow.Author.Tests.{lt-ltb, le-ltb, eq-eqb, ne_eqb}
+use borrow.Author.Tests.{le-ltb, eq-eqb, ne_eqb}
 use Rattle.sets.specs.Terms.{put}
 use Rattle.sets.proofs.Bools.{by_test}
 use Rattle.sets.proofs.Laws.{member_none}
-use Rattle.rules.specs.Fence.{Tracker}
 use Rattle.rules.specs.Ledger.{Ledger, Slot, Hart, Place, with_global, with_slot, with_hart, slot, inside, opened, start, flushes}
 use Rattle.rules.specs.Encoding.{read, part, cell, bits, tracker_of, upper, place_of, mark_of, view_of, view}
 use Rattle.rules.proofs.Views.{view-global, view-pages, view-fence, view-place, view-mark}
 use Rattle.rules.proofs.Unique.{zeros-unopened}
 use Rattle.fences.specs.Trackers.{tracker_at}
-use Rattle.words.specs.Parts.{packed, Packed}
+use Rattle.words.specs.Parts.{Packed}
 
 -- ---- a fence's word
 module _ {v a u r : ℕ} (p : Packed v a u r) where

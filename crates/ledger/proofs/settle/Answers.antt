@@ -1,5 +1,4 @@
 use mathlib.Core.Path.{sym, ◌∙◌}
-use borrow.Author.Rules.{rules}
 use Rattle.sets.proofs.OneOf.{one_off}
 use Rattle.rules.specs.Refusals.{refuses4}
 use Rattle.rules.specs.Encoding.{view, pages_of}

@@ -1,4 +1,3 @@
-use borrow.Author.Rules.{rules}
 use Rattle.sets.proofs.Laws.{with_lt}
 use Rattle.sets.proofs.insert.Goals as goal
 

@@ -1,4 +1,3 @@
-use borrow.Author.Rules.{rules}
 use Rattle.sets.proofs.Laws.{without_lt}
 use Rattle.sets.proofs.remove.Goals as goal
 

@@ -1,5 +1,4 @@
 use mathlib.Core.Path.{◌∙◌}
-use borrow.Author.Rules.{rules}
 use Rattle.door.proofs.Named.{asked_is}
 use Rattle.door.proofs.asked.asked.Goals as goal
 

@@ -1,4 +1,3 @@
-use borrow.Author.Rules.{rules}
 use Rattle.door.proofs.Named.{role_at_lem}
 use Rattle.door.proofs.asked.role.Goals as goal
 

@@ -1,4 +1,3 @@
-use borrow.Author.Rules.{rules}
 use Rattle.rules.specs.Encoding.{pages_of}
 use Rattle.door.proofs.early.fits.Goals as goal
 

@@ -1,6 +1,5 @@
 use mathlib.Core.Path.{◌∙◌}
 use mathlib.Core.Bool.{◌||◌}
-use borrow.Author.Rules.{rules}
 use Rattle.sets.specs.Terms.{one_of, one_from}
 use Rattle.rules.specs.declared.Role.TheVariants.{Vcpu, UnitCount, UnitType, ByteLength, HartCount, PageCount}
 use Rattle.door.proofs.early.names_for_4.Goals as goal

@@ -1,4 +1,3 @@
-use borrow.Author.Rules.{rules}
 use Rattle.rules.specs.Refusals.{refuses1}
 use Rattle.door.proofs.early.refuses1.Goals as goal
 

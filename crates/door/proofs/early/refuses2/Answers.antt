@@ -1,4 +1,3 @@
-use borrow.Author.Rules.{rules}
 use Rattle.rules.specs.declared.Role.TheVariants.{Tvm}
 use Rattle.rules.specs.Refusals.{refuses2}
 use Rattle.door.proofs.early.refuses2.Goals as goal

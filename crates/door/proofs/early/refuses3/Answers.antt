@@ -1,4 +1,3 @@
-use borrow.Author.Rules.{rules}
 use Rattle.sets.specs.Terms.{one_of, one_from}
 use Rattle.rules.specs.declared.Role.TheVariants.{Tvm}
 use Rattle.rules.specs.Refusals.{refuses3}

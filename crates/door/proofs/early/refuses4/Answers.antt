@@ -2,7 +2,6 @@ use mathlib.Core.Path.{◌≡◌, sym, ◌∙◌, ap}
 use mathlib.Core.Bool.{false}
 use Prim.Native.Nat.{ℕ}
 use lib.Dec.{leb}
-use borrow.Author.Rules.{rules}
 use Rattle.rules.specs.Encoding.{view, pages_of}
 use Rattle.door.specs.Asked.{names_for_4}
 use Rattle.door.proofs.Bare.{only_hart}

@@ -2,7 +2,6 @@ use Prim.Native.Nat.{ℕ, ◌*◌, ◌%◌}
 use mathlib.Core.Path.{◌∙◌, sym, ap}
 use mathlib.Core.Bool.{Bool, not, cond, ◌&&◌, ◌||◌}
 use lib.Dec.{eqb}
-use borrow.Author.Rules.{rules}
 use Rattle.sets.specs.Terms.{one_of, one_from, within}
 use Rattle.rules.specs.declared.Role.TheVariants.{HostBase, FreeBase, DirectoryBase, UnitType, GuestBase}
 use Rattle.rules.specs.Calls.{span}

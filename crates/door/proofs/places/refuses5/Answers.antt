@@ -1,5 +1,4 @@
 use mathlib.Core.Path.{sym, ◌∙◌}
-use borrow.Author.Rules.{rules}
 use Rattle.rules.specs.Encoding.{view, pages_of}
 use Rattle.door.proofs.Placeless.{not_5}
 use Rattle.door.proofs.places.refuses5.Goals as goal

@@ -4,7 +4,6 @@ use mathlib.Core.Bool.{not}
 use native.Mathlib.Omega.{arith}
 use lib.Dec.{eqb}
 use borrow.Author.Tests.{ltb-false}
-use borrow.Author.Rules.{rules}
 use Rattle.sets.proofs.Bools.{and_off}
 use Rattle.rules.specs.Calls.{unit, arg, size}
 use Rattle.rules.specs.declared.Role.TheVariants.{UnitCount, UnitType, ByteLength}

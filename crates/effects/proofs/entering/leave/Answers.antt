@@ -1,6 +1,5 @@
 use mathlib.Core.Path.{◌≡◌, sym, ◌∙◌, ap}
 use mathlib.Core.Bool.{true≢false}
-use borrow.Author.Rules.{rules}
 use Rattle.rules.specs.Fence.{strike}
 use Rattle.rules.specs.Ledger.{with_hart, with_slot, with_fence, inside, outside, is_outside, slot_of, place_number}
 use Rattle.rules.specs.Encoding.{view}

@@ -1,5 +1,4 @@
 use mathlib.Core.Path.{◌≡◌, ◌∙◌, ap}
-use borrow.Author.Rules.{rules}
 use Rattle.rules.specs.Fence.{strike}
 use Rattle.rules.specs.Ledger.{with_slot, with_fence}
 use Rattle.rules.specs.Encoding.{view}

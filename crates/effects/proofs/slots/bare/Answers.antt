@@ -1,5 +1,4 @@
 use mathlib.Core.Path.{◌∙◌}
-use borrow.Author.Rules.{rules}
 use Rattle.rules.specs.Ledger.{Slot, with_slot, slot}
 use Rattle.rules.specs.Encoding.{view, bits}
 use Rattle.fences.specs.Trackers.{tvm_of}

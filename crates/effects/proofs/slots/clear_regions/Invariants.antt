@@ -1,12 +1,8 @@
 use Prim.Native.Nat.{◌≤◌, ◌-◌}
-use mathlib.Core.Path.{◌≡◌, sym, ◌∙◌}
-use native.Mathlib.Omega.{arith}
-use borrow.Author.Rules.{rules}
-use Rattle.sets.specs.Terms.{put}
-use Rattle.rules.specs.Ledger.{Slot, with_slot, slot}
+use mathlib.Core.Path.{◌≡◌}
+use Rattle.rules.specs.Ledger.{with_slot, slot}
 use Rattle.rules.specs.Encoding.{view}
-use Rattle.effects.specs.Parts.{no_region}
-use Rattle.effects.proofs.Puts.{slot_same, slot_again, cleared_to, cleared_none, cleared_next, cleared_all}
+use Rattle.effects.proofs.Puts.{cleared_to}
 use Rattle.effects.proofs.slots.clear_regions.Given as goal
 
 abbrev pub invariant-loop-i : goal.invariant-loop-i

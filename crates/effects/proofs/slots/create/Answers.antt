@@ -1,5 +1,4 @@
 use mathlib.Core.Path.{◌∙◌}
-use borrow.Author.Rules.{rules}
 use Rattle.rules.specs.Ledger.{with_slot, bare}
 use Rattle.rules.specs.Encoding.{view}
 use Rattle.effects.proofs.slots.create.Goals as goal

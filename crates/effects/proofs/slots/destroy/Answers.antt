@@ -1,6 +1,5 @@
 use Prim.Native.Nat.{◌+◌, min}
 use mathlib.Core.Path.{◌∙◌}
-use borrow.Author.Rules.{rules}
 use Rattle.rules.specs.Ledger.{with_slot, bare}
 use Rattle.rules.specs.Encoding.{view}
 use Rattle.fences.specs.Trackers.{tvm_of}

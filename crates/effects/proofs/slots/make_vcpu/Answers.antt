@@ -1,6 +1,5 @@
 use mathlib.Core.Path.{◌∙◌, ap}
 use mathlib.Core.Bool.{true}
-use borrow.Author.Rules.{rules}
 use Rattle.sets.specs.Terms.{put}
 use Rattle.rules.specs.Ledger.{with_slot, slot}
 use Rattle.rules.specs.Encoding.{view, bits}

@@ -1,7 +1,6 @@
 use native.Mathlib.Omega.{arith}
 use mathlib.Core.Path.{◌∙◌}
 use borrow.Author.Tests.{ne_eqb}
-use borrow.Author.Rules.{rules}
 use Rattle.sets.specs.Terms.{one_of, one_from}
 use Rattle.rules.specs.declared.Role.TheVariants.{Tvm, Vcpu}
 use Rattle.rules.specs.Calls.{entry_of}

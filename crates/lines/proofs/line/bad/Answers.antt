@@ -1,6 +1,5 @@
 -- `lines::line::bad` meets its contract, arm by arm.
 use Rattle.lines.proofs.Writes.{none}
-use borrow.Author.Rules.{rules}
 use Rattle.lines.proofs.line.bad.Goals as goal
 
 pub noted-requires : goal.noted-requires

@@ -2,7 +2,6 @@
 use native.Mathlib.Omega.{arith}
 use Rattle.lines.specs.Text.{decimal, blank}
 use Rattle.lines.proofs.Writes.{joined, room, shorter}
-use borrow.Author.Rules.{rules}
 use Rattle.lines.proofs.line.field.Goals as goal
 
 pub decimal-end-requires : goal.decimal-end-requires

@@ -1,8 +1,8 @@
 -- `lines::line::line` meets its contract: the number's field, the call's, then what was told.
-use Prim.Native.Nat.{ℕ, ◌+◌, ◌^◌, ◌<◌, ◌≤◌}
+use Prim.Native.Nat.{ℕ, ◌^◌, ◌<◌, ◌≤◌}
 use Rattle.std.specs.Prelude.{ℤ}
 use mathlib.Core.Path.{◌≡◌, sym, ◌∙◌}
-use mathlib.Core.List.{List, ◌++◌, append_assoc}
+use mathlib.Core.List.{◌++◌, append_assoc}
 use native.Mathlib.Omega.{arith}
 use lib.ListN.{length}
 use mir.Syntax.{w64}
@@ -14,7 +14,6 @@ use Rattle.lines.specs.Lines.{told, line as lines_line}
 use Rattle.lines.proofs.Writes.{joined, room, shorter}
 use Rattle.lines.proofs.Signs.{held}
 use Rattle.lines.proofs.Sizes.{line-size}
-use borrow.Author.Rules.{rules}
 use Rattle.lines.proofs.line.line.Goals as goal
 
 -- what is told, as the machine holds it

@@ -3,7 +3,6 @@ use mathlib.Core.List.{◌++◌}
 use native.Mathlib.Omega.{arith}
 use Rattle.lines.specs.Text.{decimal, blank, newline}
 use Rattle.lines.proofs.Writes.{joined, room, shorter}
-use borrow.Author.Rules.{rules}
 use Rattle.lines.proofs.line.noted.Goals as goal
 
 pub field-number_end-requires : goal.field-number_end-requires

@@ -1,10 +1,9 @@
 -- `lines::line::told` meets its contract: the error, a blank, the value and the line's end.
 use mathlib.Core.List.{◌++◌}
 use native.Mathlib.Omega.{arith}
-use Rattle.lines.specs.Text.{decimal, signed, blank, newline, Written}
+use Rattle.lines.specs.Text.{decimal, signed, blank, newline}
 use Rattle.lines.proofs.Writes.{joined, room, shorter}
 use Rattle.lines.proofs.Signs.{held}
-use borrow.Author.Rules.{rules}
 use Rattle.lines.proofs.line.told.Goals as goal
 
 pub signed-error_end-requires : goal.signed-error_end-requires

@@ -6,7 +6,6 @@ use mathlib.Core.List.{List}
 use borrow.Author.Tests.{le-leb, lt-leb}
 use Rattle.tape.specs.Tape.{args_at, word}
 use Rattle.lines.proofs.Starts.{handed-is}
-use borrow.Author.Rules.{rules}
 use Rattle.lines.proofs.print.handed.Goals as goal
 
 argument : (s args : List ℕ) (n : ℕ) → n ≡ word args 8 → args ≡ args_at s 0 → n ≡ word (args_at s 0) 8

@@ -1,21 +1,19 @@
 -- `lines::print::lines` meets its contract. The invariant: what is written so far, and what is still to come, is the whole. The measure is what is
 -- left of the tape.
-use Prim.Native.Nat.{◌+◌, ◌-◌}
+use Prim.Native.Nat.{◌+◌}
 use mathlib.Core.Path.{◌≡◌, refl, sym, ap, ◌∙◌}
 use native.Mathlib.Omega.{arith}
 use lib.ListN.{length}
 use borrow.Author.Tests.{le-leb}
 use borrow.Author.Rules.{rules}
-use Rattle.rules.specs.Encoding.{state_of}
 use Rattle.tape.specs.declared.record.Step.{Step}
 use Rattle.tape.specs.declared.record.Step.TheVariants.{End, Record}
 use Rattle.tape.specs.declared.reader.Went.{Went}
-use Rattle.tape.specs.Tape.{step_at, after_of, reading}
+use Rattle.tape.specs.Tape.{step_at, after_of}
 use Rattle.tape.proofs.Steps.{passed, stops}
-use Rattle.lines.specs.Lines.{lines_from}
 use Rattle.lines.proofs.Writes.{kept, none}
 use Rattle.lines.proofs.Sizes.{bad-size}
-use Rattle.lines.proofs.Printing.{Printing, begun, more, ending, one_fits, small-number}
+use Rattle.lines.proofs.Printing.{begun, more, ending, one_fits, small-number}
 use Rattle.lines.proofs.print.lines.Goals as goal
 
 -- a record was read, and the place is past it

@@ -10,7 +10,6 @@ use Rattle.lines.specs.Lines.{zeros, start, lines_from}
 use Rattle.lines.proofs.Writes.{joined}
 use Rattle.lines.proofs.Starts.{length-zeros, take-zeros, started, printed-long, printed-lines}
 use Rattle.lines.proofs.Promised.{printed-is}
-use borrow.Author.Rules.{rules}
 use Rattle.lines.proofs.print.print.Goals as goal
 
 -- the part of the table that is handed on

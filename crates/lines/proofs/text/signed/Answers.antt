@@ -1,15 +1,9 @@
 -- `lines::text::signed` meets its contract: the sign of a negative number, and its size.
-use mathlib.Core.Path.{◌≡◌, ap}
-use mathlib.Core.List.{[], ◌∷◌, ◌++◌}
+use mathlib.Core.Path.{ap}
 use native.Mathlib.Omega.{arith}
-use lib.IntN.{nat_abs}
 use lib.ListN.{length}
-use mir.Syntax.{w64}
-use mir.Val.{to_z, of_z}
-use Rattle.lines.specs.Text.{decimal, signed}
 use Rattle.lines.proofs.Writes.{joined, kept}
 use Rattle.lines.proofs.Signs.{text_below, text_not_below}
-use borrow.Author.Rules.{rules}
 use Rattle.lines.proofs.text.signed.Goals as goal
 
 pub put-end-requires : goal.put-end-requires

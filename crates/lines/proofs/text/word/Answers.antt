@@ -1,10 +1,7 @@
 -- `lines::text::word` meets its contract. The invariant: the bytes passed are written.
-use Prim.Native.Nat.{◌+◌, ◌-◌, ◌≤◌}
 use native.Mathlib.Nat.{add-zero}
 use native.Mathlib.Omega.{arith}
-use lib.ListN.{length, take}
 use lib.Seq.{take_all}
-use Rattle.lines.specs.Text.{Written}
 use Rattle.lines.proofs.Writes.{none, one_more, kept}
 use Rattle.lines.proofs.text.word.Goals as goal
 

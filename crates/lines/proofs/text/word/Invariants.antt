@@ -1,10 +1,6 @@
 use Prim.Native.Nat.{◌+◌, ◌-◌, ◌≤◌}
-use native.Mathlib.Nat.{add-zero}
-use native.Mathlib.Omega.{arith}
 use lib.ListN.{length, take}
-use lib.Seq.{take_all}
 use Rattle.lines.specs.Text.{Written}
-use Rattle.lines.proofs.Writes.{none, one_more, kept}
 use Rattle.lines.proofs.text.word.Given as goal
 
 abbrev pub invariant-loop-i : goal.invariant-loop-i

@@ -1,6 +1,5 @@
 use mathlib.Core.Path.{◌≡◌, sym, ◌∙◌}
 use mathlib.Core.Bool.{false}
-use borrow.Author.Rules.{rules}
 use Rattle.rules.specs.Encoding.{view, pages_of}
 use Rattle.door.specs.Places.{names_place}
 use Rattle.door.proofs.Placeless.{not_6, not_7, not_14}

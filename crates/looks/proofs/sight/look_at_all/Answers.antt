@@ -1,7 +1,6 @@
 use mathlib.Core.Path.{sym, ◌∙◌, ap, subst}
 use mathlib.Core.Bool.{◌&&◌, ◌||◌, true, false}
 use lib.Dec.{eqb}
-use borrow.Author.Rules.{rules}
 use Rattle.rules.specs.declared.Role.TheVariants.{HostBase, FreeBase, DirectoryBase}
 use Rattle.rules.specs.Encoding.{view, pages_of}
 use Rattle.looks.specs.Sights.{Seen, is_unwanted, is_unfinished, is_unready, is_undone, has_cut, look_at}

@@ -1,13 +1,11 @@
 -- `records::guest::look` meets its contract: the invariant is `Looked`, and each way through a turn is one of its laws.
 -- Assumes nothing.
-use Prim.Native.Nat.{◌-◌, ◌<◌}
+use Prim.Native.Nat.{◌<◌}
 use mathlib.Core.Path.{◌≡◌, refl, sym, ◌∙◌}
-use mathlib.Core.Logic.{⊎_elim}
 use native.Mathlib.Omega.{arith}
-use borrow.Author.Rules.{rules}
 use Rattle.rules.specs.Encoding.{pages_of}
 use Rattle.fences.specs.Trackers.{tvm_of}
-use Rattle.records.proofs.GuestLook.{Looked, looked_none, turn_first, turn_other, turn_room, turn_bad, looked_short, looked_full}
+use Rattle.records.proofs.GuestLook.{looked_none, turn_first, turn_other, turn_room, turn_bad, looked_short, looked_full}
 use Rattle.records.proofs.guest.look.Goals as goal
 use Rattle.records.proofs.guest.look.Goals.{then-is_first+else-p-kind+else-missing-eq0, else-is_first}
 

@@ -1,11 +1,7 @@
-use Prim.Native.Nat.{◌-◌, ◌<◌}
-use mathlib.Core.Path.{◌≡◌, refl, sym, ◌∙◌}
-use mathlib.Core.Logic.{⊎_elim}
-use native.Mathlib.Omega.{arith}
-use borrow.Author.Rules.{rules}
+use Prim.Native.Nat.{◌-◌}
 use Rattle.rules.specs.Encoding.{pages_of}
 use Rattle.fences.specs.Trackers.{tvm_of}
-use Rattle.records.proofs.GuestLook.{Looked, looked_none, turn_first, turn_other, turn_room, turn_bad, looked_short, looked_full}
+use Rattle.records.proofs.GuestLook.{Looked}
 use Rattle.records.proofs.guest.look.Given as goal
 
 abbrev pub invariant-loop-i : goal.invariant-loop-i

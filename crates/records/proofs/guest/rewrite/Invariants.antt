@@ -1,17 +1,11 @@
 use Prim.Native.Nat.{◌+◌, ◌-◌, ◌≤◌}
-use mathlib.Core.Path.{◌≡◌, refl, sym, ◌∙◌, ap}
-use mathlib.Core.Logic.{⊎_elim}
-use mathlib.Core.Bool.{true, false}
-use native.Mathlib.Omega.{arith}
+use mathlib.Core.Path.{◌≡◌}
 use lib.ListN.{length}
-use borrow.Author.Rules.{rules}
-use borrow.Author.Tests.{le-ltb}
-use Rattle.rules.specs.declared.Page.{Page}
 use Rattle.rules.specs.Page.{is_meant}
 use Rattle.rules.specs.Encoding.{pages_of}
-use Rattle.records.specs.Passes.{is_new, noted, becomes}
-use Rattle.records.proofs.Meant.{Seen, seen_none, new_is, seen_next, tally, tally_none, tally_new, tally_old, room, none_left}
-use Rattle.records.proofs.WritePass.{up_to, pass_none, pass_put, pass_skip, at_hand, pass_end}
+use Rattle.records.specs.Passes.{becomes}
+use Rattle.records.proofs.Meant.{Seen, tally}
+use Rattle.records.proofs.WritePass.{up_to}
 use Rattle.records.proofs.guest.rewrite.Given as goal
 
 abbrev pub invariant-loop-i : goal.invariant-loop-i

@@ -1,17 +1,16 @@
 -- `records::range::fill` meets its contract: a pass that writes every record of its part.
 -- Assumes nothing.
-use Prim.Native.Nat.{◌≤◌, ◌-◌, ◌*◌}
+use Prim.Native.Nat.{◌≤◌}
 use mathlib.Core.Path.{◌≡◌, refl, ◌∙◌, ap}
-use mathlib.Core.Bool.{Bool, true}
+use mathlib.Core.Bool.{true}
 use native.Mathlib.Nat.{mul-le-mul_left}
 use native.Mathlib.Omega.{arith}
 use lib.Dec.{ltb}
-use lib.ListN.{length}
 use borrow.Author.Rules.{rules}
 use Rattle.sets.proofs.Bools.{and_true}
 use Rattle.rules.specs.Encoding.{pages_of}
 use Rattle.records.specs.Passes.{stepped}
-use Rattle.records.proofs.WritePass.{up_to, pass_none, pass_put, over_ext}
+use Rattle.records.proofs.WritePass.{pass_none, pass_put, over_ext}
 use Rattle.records.proofs.range.fill.Goals as goal
 
 pub loop-i-init : goal.loop-i-init

@@ -1,15 +1,10 @@
-use Prim.Native.Nat.{◌≤◌, ◌-◌, ◌*◌}
-use mathlib.Core.Path.{◌≡◌, refl, ◌∙◌, ap}
-use mathlib.Core.Bool.{Bool, true}
-use native.Mathlib.Nat.{mul-le-mul_left}
-use native.Mathlib.Omega.{arith}
-use lib.Dec.{ltb}
+use Prim.Native.Nat.{◌≤◌, ◌-◌}
+use mathlib.Core.Path.{◌≡◌}
+use mathlib.Core.Bool.{true}
 use lib.ListN.{length}
-use borrow.Author.Rules.{rules}
-use Rattle.sets.proofs.Bools.{and_true}
 use Rattle.rules.specs.Encoding.{pages_of}
 use Rattle.records.specs.Passes.{stepped}
-use Rattle.records.proofs.WritePass.{up_to, pass_none, pass_put, over_ext}
+use Rattle.records.proofs.WritePass.{up_to}
 use Rattle.records.proofs.range.fill.Given as goal
 
 abbrev pub invariant-loop-i : goal.invariant-loop-i

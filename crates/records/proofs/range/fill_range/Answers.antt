@@ -1,6 +1,5 @@
 -- `records::range::fill_range` meets its contract: the part that `fill` wrote is the range.
 -- Assumes nothing.
-use borrow.Author.Rules.{rules}
 use Rattle.records.specs.Passes.{stepped}
 use Rattle.records.proofs.WritePass.{part-written}
 use Rattle.records.proofs.range.fill_range.Goals as goal

@@ -1,17 +1,14 @@
 -- `records::range::look` meets its contract. The loop's invariant: no record passed is unwanted, and the flag says whether one is unfinished.
 -- Assumes nothing.
-use Prim.Native.Nat.{◌≤◌, ◌-◌, ◌+◌}
-use mathlib.Core.Path.{◌≡◌, refl, sym, ◌∙◌, ap}
-use mathlib.Core.Bool.{Bool, false, not, ◌||◌}
+use Prim.Native.Nat.{◌+◌}
+use mathlib.Core.Path.{◌≡◌, refl}
+use mathlib.Core.Bool.{not}
 use native.Mathlib.Omega.{arith}
 use borrow.Author.Rules.{rules}
-use borrow.Author.Tests.{not-false}
 use Rattle.sets.specs.Look.{any}
 use Rattle.sets.proofs.Looks.{any_hit, any_more, any_next}
-use Rattle.rules.specs.declared.Page.{Page}
 use Rattle.rules.specs.Encoding.{pages_of}
-use Rattle.fences.specs.Trackers.{global_of}
-use Rattle.records.specs.Passes.{wanted, unfinished, range_look}
+use Rattle.records.specs.Passes.{wanted, range_look}
 use Rattle.records.proofs.range.look.Goals as goal
 
 pub loop-i-init : goal.loop-i-init

@@ -1,15 +1,10 @@
 use Prim.Native.Nat.{◌≤◌, ◌-◌, ◌+◌}
-use mathlib.Core.Path.{◌≡◌, refl, sym, ◌∙◌, ap}
-use mathlib.Core.Bool.{Bool, false, not, ◌||◌}
-use native.Mathlib.Omega.{arith}
-use borrow.Author.Rules.{rules}
-use borrow.Author.Tests.{not-false}
+use mathlib.Core.Path.{◌≡◌}
+use mathlib.Core.Bool.{false, not}
 use Rattle.sets.specs.Look.{any}
-use Rattle.sets.proofs.Looks.{any_hit, any_more, any_next}
-use Rattle.rules.specs.declared.Page.{Page}
 use Rattle.rules.specs.Encoding.{pages_of}
 use Rattle.fences.specs.Trackers.{global_of}
-use Rattle.records.specs.Passes.{wanted, unfinished, range_look}
+use Rattle.records.specs.Passes.{wanted, unfinished}
 use Rattle.records.proofs.range.look.Given as goal
 
 abbrev pub invariant-loop-i : goal.invariant-loop-i

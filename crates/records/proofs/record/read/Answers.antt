@@ -1,4 +1,3 @@
-use borrow.Author.Rules.{rules}
 use Rattle.rules.specs.Encoding.{pages_of}
 use Rattle.records.proofs.record.read.Goals as goal
 

@@ -1,13 +1,9 @@
-use Prim.Native.Nat.{◌≤◌, ◌-◌, ◌+◌}
-use mathlib.Core.Path.{◌≡◌, refl, sym, ◌∙◌, ap}
+use Prim.Native.Nat.{◌≤◌, ◌-◌}
+use mathlib.Core.Path.{◌≡◌}
 use mathlib.Core.Bool.{false}
-use native.Mathlib.Omega.{arith}
-use borrow.Author.Rules.{rules}
 use Rattle.sets.specs.Look.{any}
-use Rattle.sets.proofs.Looks.{any_hit, any_more}
 use Rattle.rules.specs.Encoding.{pages_of}
 use Rattle.records.specs.Passes.{claims_in}
-use Rattle.records.proofs.Meant.{any_claimed_is}
 use Rattle.records.proofs.table.any_claimed.Given as goal
 
 abbrev pub invariant-loop-i : goal.invariant-loop-i

@@ -1,17 +1,14 @@
 -- `records::table::take_back` meets its contract: a pass that writes the records of the slot.
 -- Assumes nothing.
-use Prim.Native.Nat.{ℕ, ◌≤◌, ◌-◌}
+use Prim.Native.Nat.{ℕ}
 use mathlib.Core.Path.{◌≡◌, refl, sym, ◌∙◌, ap}
-use mathlib.Core.Logic.{⊎_elim}
-use mathlib.Core.Bool.{Bool, ◌&&◌}
+use mathlib.Core.Bool.{Bool}
 use native.Mathlib.Omega.{arith}
-use lib.Dec.{eqb}
-use lib.ListN.{length}
 use borrow.Author.Rules.{rules}
 use Rattle.rules.specs.declared.Page.{Page}
-use Rattle.rules.specs.Page.{page, is_given}
+use Rattle.rules.specs.Page.{page}
 use Rattle.rules.specs.Encoding.{pages_of}
-use Rattle.records.proofs.WritePass.{up_to, pass_none, pass_put, pass_skip, at_hand, pass_end}
+use Rattle.records.proofs.WritePass.{pass_none, pass_put, pass_skip, at_hand, pass_end}
 use Rattle.records.proofs.Bytes.{page_past}
 use Rattle.records.proofs.table.take_back.Invariants.{given}
 use Rattle.records.proofs.table.take_back.Goals as goal

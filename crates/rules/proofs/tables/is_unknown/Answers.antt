@@ -1,4 +1,3 @@
-use borrow.Author.Rules.{rules}
 use Rattle.rules.proofs.CallTable.{known_digit}
 use Rattle.rules.proofs.tables.is_unknown.Goals as goal
 

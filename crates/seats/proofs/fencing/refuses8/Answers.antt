@@ -1,6 +1,5 @@
 use native.Mathlib.Omega.{arith}
-use mathlib.Core.Path.{refl, ◌∙◌, ap}
-use borrow.Author.Rules.{rules}
+use mathlib.Core.Path.{refl, ◌∙◌}
 use Rattle.rules.specs.declared.Role.TheVariants.{Tvm}
 use Rattle.rules.specs.Calls.{arg}
 use Rattle.rules.specs.Fence.{someone}

@@ -5,7 +5,6 @@ use Rattle.rules.specs.Fence.{someone}
 use Rattle.rules.specs.Encoding.{view}
 use Rattle.seats.specs.Harts.{there_of}
 use Rattle.seats.proofs.Seats.{at_8, at_14, at_15, at_none}
-use borrow.Author.Rules.{rules}
 use Rattle.seats.proofs.presence.is_busy.Goals as goal
 
 pub returns-in-8 : goal.returns-in-8

@@ -10,7 +10,6 @@ use Rattle.rules.specs.Refusals.{refuses12}
 use Rattle.rules.specs.Encoding.{view}
 use Rattle.seats.specs.Harts.{busy_by, there_of}
 use Rattle.seats.proofs.Seats.{before_three}
-use borrow.Author.Rules.{rules}
 use Rattle.seats.proofs.presence.refuses12.Goals as goal
 
 pub returns : goal.returns

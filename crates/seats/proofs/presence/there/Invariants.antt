@@ -1,12 +1,8 @@
 use Prim.Native.Nat.{◌≤◌, ◌-◌}
-use mathlib.Core.Path.{◌≡◌, sym, ◌∙◌, ap}
-use mathlib.Core.Logic.{⊎_elim}
-use native.Mathlib.Omega.{arith}
-use borrow.Author.Rules.{rules}
+use mathlib.Core.Path.{◌≡◌}
 use Rattle.rules.specs.Encoding.{view, bits}
-use Rattle.rules.proofs.HartSets.{upto, upto_none, upto_with, upto_skip, upto_all}
-use Rattle.seats.specs.Harts.{is_there, there_of}
-use Rattle.seats.proofs.Seats.{far_outside}
+use Rattle.rules.proofs.HartSets.{upto}
+use Rattle.seats.specs.Harts.{there_of}
 use Rattle.seats.proofs.presence.there.Given as goal
 
 abbrev pub invariant-loop-h : goal.invariant-loop-h

@@ -2,7 +2,6 @@ use Prim.Native.Nat.{◌/◌}
 use mathlib.Core.Path.{◌≡◌, sym, ◌∙◌, ap}
 use mathlib.Core.Bool.{not}
 use borrow.Author.Tests.{eq-eqb, ne_eqb}
-use borrow.Author.Rules.{rules}
 use Rattle.sets.specs.Look.{any}
 use Rattle.sets.proofs.Bools.{or_false}
 use Rattle.rules.specs.declared.Role.TheVariants.{Tvm, UnitType, GuestBase}

@@ -10,7 +10,6 @@ use Rattle.rules.specs.Calls.{arg}
 use Rattle.rules.specs.Refusals.{refuses9, takeable, taken, unused}
 use Rattle.rules.specs.Encoding.{view}
 use Rattle.seats.proofs.Seats.{at_first, at_second, at_neither}
-use borrow.Author.Rules.{rules}
 use Rattle.seats.proofs.room.refuses9.Goals as goal
 
 pub returns-in-5 : goal.returns-in-5

@@ -1,12 +1,9 @@
 use Prim.Native.Nat.{◌≤◌, ◌-◌}
-use mathlib.Core.Path.{◌≡◌, refl, sym, ◌∙◌, ap}
+use mathlib.Core.Path.{◌≡◌}
 use mathlib.Core.Bool.{false}
-use native.Mathlib.Omega.{arith}
-use borrow.Author.Rules.{rules}
 use Rattle.sets.specs.Look.{any}
-use Rattle.sets.proofs.Looks.{any_more, lowest_hit, lowest_none}
 use Rattle.rules.specs.Encoding.{view}
-use Rattle.rules.specs.Refusals.{takeable, taken}
+use Rattle.rules.specs.Refusals.{takeable}
 use Rattle.seats.proofs.room.taken.Given as goal
 
 abbrev pub invariant-loop-k : goal.invariant-loop-k

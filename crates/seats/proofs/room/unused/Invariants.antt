@@ -1,10 +1,7 @@
 use Prim.Native.Nat.{◌≤◌, ◌-◌}
-use mathlib.Core.Path.{◌≡◌, refl, sym, ◌∙◌, ap}
+use mathlib.Core.Path.{◌≡◌}
 use mathlib.Core.Bool.{false}
-use native.Mathlib.Omega.{arith}
-use borrow.Author.Rules.{rules}
 use Rattle.sets.specs.Look.{any}
-use Rattle.sets.proofs.Looks.{any_more, lowest_hit, lowest_none}
 use Rattle.rules.specs.Encoding.{view}
 use Rattle.rules.specs.Refusals.{unused}
 use Rattle.seats.proofs.room.unused.Given as goal

@@ -1,4 +1,3 @@
-use borrow.Author.Rules.{rules}
 use Rattle.sets.specs.Pages.{member_in}
 use Rattle.sets.proofs.pages.has.Goals as goal
 

@@ -1,4 +1,3 @@
-use borrow.Author.Rules.{rules}
 use Rattle.sets.specs.Pages.{with_in}
 use Rattle.sets.proofs.pages.insert.Goals as goal
 

@@ -1,4 +1,3 @@
-use borrow.Author.Rules.{rules}
 use Rattle.sets.specs.Pages.{without_in}
 use Rattle.sets.proofs.pages.remove.Goals as goal
 

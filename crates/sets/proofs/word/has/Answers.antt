@@ -1,4 +1,3 @@
-use borrow.Author.Rules.{rules}
 use mathlib.Core.Path.{refl}
 use Rattle.sets.specs.Set.{member}
 use Rattle.sets.proofs.word.has.Goals as goal

@@ -1,5 +1,3 @@
-use borrow.Author.Rules.{rules}
-use Rattle.sets.specs.Set.{with}
 use Rattle.sets.proofs.Laws.{one_shl, with-or}
 use Rattle.sets.proofs.word.insert.Goals as goal
 

@@ -1,5 +1,3 @@
-use borrow.Author.Rules.{rules}
-use Rattle.sets.specs.Set.{without}
 use Rattle.sets.proofs.Laws.{one_shl, without-and}
 use Rattle.sets.proofs.word.remove.Goals as goal
 

@@ -1,6 +1,6 @@
 -- `tape::reading::run_of` meets its contract. The invariant: so many records are gone, and the reading from here on is what is left of the whole.
 -- The measure is what is left of the tape.
-use Prim.Native.Nat.{◌+◌, ◌-◌}
+use Prim.Native.Nat.{◌+◌}
 use mathlib.Core.Path.{◌≡◌, sym, ap, subst, ◌∙◌}
 use native.Mathlib.Omega.{arith}
 use lib.ListN.{length}
@@ -12,7 +12,7 @@ use Rattle.tape.specs.declared.reader.Went.{Went}
 use Rattle.tape.specs.Tape.{step_at, after_of}
 use Rattle.tape.specs.Promises.{Stops}
 use Rattle.tape.proofs.Steps.{passed, stops}
-use Rattle.tape.proofs.Readings.{Gone, gone_none, gone_more, gone_stop}
+use Rattle.tape.proofs.Readings.{gone_none, gone_more, gone_stop}
 use Rattle.tape.proofs.reading.run_of.Goals as goal
 
 -- a record was read, and the place is past it

@@ -1,4 +1,3 @@
-use borrow.Author.Rules.{rules}
 use borrow.Author.Tests.{eq-eqb, ne_eqb}
 use Rattle.rules.specs.Encoding.{view_of}
 use Rattle.words.proofs.parts.place_of.Goals as goal

@@ -1,4 +1,3 @@
-use borrow.Author.Rules.{rules}
 use Rattle.words.proofs.Stores.{stored_global}
 use Rattle.words.proofs.parts.set_global.Goals as goal
 

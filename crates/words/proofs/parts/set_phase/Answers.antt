@@ -1,4 +1,3 @@
-use borrow.Author.Rules.{rules}
 use mathlib.Core.Path.{◌∙◌, ap}
 use Rattle.rules.specs.Encoding.{read, view_of}
 use Rattle.rules.proofs.Views.{view-phase}

@@ -1,4 +1,3 @@
-use borrow.Author.Rules.{rules}
 use Rattle.rules.specs.Encoding.{view_of}
 use Rattle.words.proofs.sizes.harts.Goals as goal
 

@@ -1,4 +1,3 @@
-use borrow.Author.Rules.{rules}
 use Rattle.words.proofs.Stores.{stored_sizes}
 use Rattle.words.proofs.sizes.open.Goals as goal
 
