@@ -1,8 +1,7 @@
 # The module that the kit proves and compiles for x86-64, kept, to compile it a second time for another machine. Read after board/lib.sh.
 # shellcheck shell=bash disable=SC2154
 crate=abi_c
-home=$out/kit/rattle
-kept=$home/toolchain/kept
+kept=$out/kept
 
 # expected MACHINE: the kit is laid out as it was, and its clang compiles for the machine.
 expected() {
@@ -22,9 +21,12 @@ link_all() {
     find "$from" -mindepth 1 -maxdepth 1 "${but[@]}" -exec ln -s -t "$to" {} +
 }
 
-# A kit of links to the kit's own files, all but its clang. rt takes for the kit the folder that it stands in itself, so it is copied.
+# A kit of links to the kit's own files, all but its clang. rt takes for the kit the folder that it stands in itself, so it is copied. All of it stands
+# outside of the repository, in which `rt ci` refuses links.
 linked_kit() {
-    rm -rf "${home%/*}"
+    room=$(mktemp -d)
+    trap 'rm -rf "$room"' EXIT
+    home=$room/rattle
     link_all "$kit" "$home" bin toolchain
     link_all "$kit/bin" "$home/bin" rt rtlib.py __pycache__
     cp "$kit/bin/rt" "$kit/bin/rtlib.py" "$home/bin"
@@ -41,7 +43,9 @@ proved() {
     (cd "crates/$crate" && "$home/bin/rt" lib) >"$log" 2>&1 || { cat "$log" >&2; fail "$crate is not proved"; }
     verdict=$(grep '^logic=' "$log" | tail -n 1) || fail "the kit gave no verdict: see $log"
     [[ $verdict =~ ^logic=proved\ functions=[1-9][0-9]*\ target=x86_64 ]] || fail "$crate is not proved: $verdict"
-    [ -s "$kept/module.bc" ] || fail "the kit proved $crate and handed no module to the clang in $home"
+    [ -s "$home/toolchain/kept/module.bc" ] || fail "the kit proved $crate and handed no module to the clang in $home"
+    rm -rf "$kept"
+    mv "$home/toolchain/kept" "$kept"
 }
 
 # compile OBJECT TARGET FLAG...: as the kit was told to compile it, but for the machine. LLVM says of each function that it does not know the
