@@ -5,7 +5,6 @@ out=$PWD/target/board
 firmware=$out/libroadbellow.a
 linux=$out/libroadbellow-linux.a
 
-# The kit has one toolchain for each sort of machine that it runs on.
 command -v rt >/dev/null || fail "the Rattle kit (rt) is not here"
-kit=${RATTLE_HOME:-$(dirname "$(dirname "$(readlink -f "$(command -v rt)")")")}
-tools=$kit/on/$machine/toolchain
+kit=$(dirname "$(dirname "$(readlink -f "$(command -v rt)")")")
+tools=$kit/toolchain

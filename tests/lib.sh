@@ -22,6 +22,23 @@ quietly() {
     "$@" >"$log" 2>&1 || { cat "$log" >&2; fail "failed: $*"; }
 }
 
+# from_kit FILE MADE COMMAND...: prints FILE, a copy of what COMMAND makes in a crate's folder, MADE. It is made anew where a file of the crates is newer.
+# The copy is for the scripts: `rt ci` clears what stands in a crate's out/.
+from_kit() {
+    local file=$1 made=$2 out=$PWD/target/log log=${1##*/}.log
+    shift 2
+    if [ ! -e "$file" ] || [ -n "$(find crates.txt crates -name out -prune -o -type f -newer "$file" -print -quit)" ]; then
+        command -v rt >/dev/null || fail "$file is missing or older than the crates, and the Rattle kit (rt) that builds it is not here"
+        echo "${file##*/} is proved and built, which can take some minutes" >&2
+        mkdir -p "$out" "${file%/*}"
+        touch "$out/$log.began"
+        quietly "$log" env -C "${made%/out/*}" "$@" </dev/null
+        cp "$made" "$file"
+        touch -r "$out/$log.began" "$file"
+    fi
+    echo "$file"
+}
+
 # part NAME COMMAND...: runs one part of a test. A tool that counts says so on its last line ("... N passed, M failed"); any other part is one test.
 passed=0 failed=0
 part() {
