@@ -13,7 +13,7 @@ use Rattle.rules.specs.Page.{guest_page}
 use Prim.Native.Nat.{ℕ}
 use mathlib.Core.Bool.{Bool}
 use Rattle.rules.specs.declared.Page.{Page}
-use Rattle.records.specs.Passes.{offset, claims_in, is_new, noted}
+use Rattle.records.specs.Passes.{offset_of, claims_in, is_new, noted}
 use Rattle.records.proofs.Tests.{offset_is}
 use Rattle.records.proofs.Meant.{claimed_in, with_again}
 use Rattle.records.proofs.guest.is_first.Goals as goal
@@ -23,17 +23,17 @@ unfolding is_new noted
 returns-then-not-claims_in c = let e = sym c.claims_in.ensures ∙ c.if-not-claims_in.true in (rw e, rw e)
 
 -- the offset of a page that is the slot's
-mine : (slot first count : ℕ) (p : Page) (claims : Bool) (d : ℕ) → claims ≡ claims_in slot first count p → claims ≡ true → d ≡ offset p.guest first
+mine : (slot first count : ℕ) (p : Page) (claims : Bool) (d : ℕ) → claims ≡ claims_in slot first count p → claims ≡ true → d ≡ offset_of p.guest first
     → (claims_in slot first count p ≡ true) × (d ≡ guest_page p - first) × (guest_page p - first < count)
 mine slot first count p claims d e own o =
     let w = claimed_in slot first count p (sym e ∙ own) in
     (sym e ∙ own, o ∙ offset_is p.guest first w.0, w.1)
 
 pub has-old-requires : goal.has-old-requires
-has-old-requires c = ?
+has-old-requires c = let m = mine c.args.slot c.args.first c.args.count c.args.p c.claims_in.result c.offset-d.result c.claims_in.ensures c.if-not-claims_in.false c.offset-d.ensures in omega (arith, m.1, m.2)
 
 pub insert-requires : goal.insert-requires
-insert-requires c = ?
+insert-requires c = let m = mine c.args.slot c.args.first c.args.count c.args.p c.claims_in.result c.offset-d.result c.claims_in.ensures c.if-not-claims_in.false c.offset-d.ensures in omega (arith, m.1, m.2)
 
 pub returns : goal.returns
 unfolding is_new noted

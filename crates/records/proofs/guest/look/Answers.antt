@@ -9,6 +9,7 @@ use Rattle.rules.specs.Encoding.{pages_of}
 use Rattle.fences.specs.Trackers.{tvm_of}
 use Rattle.records.proofs.GuestLook.{Looked, looked_none, turn_first, turn_other, turn_room, turn_bad, looked_short, looked_full}
 use Rattle.records.proofs.guest.look.Goals as goal
+use Rattle.records.proofs.guest.look.Goals.{then-is_first+else-p-kind+else-missing-eq0, else-is_first}
 
 pub loop-i-init : goal.loop-i-init
 loop-i-init c = looked_none _ _ _ _ _ _ _
@@ -47,12 +48,14 @@ loop-i-preserved c =
     let first = c.is_first in
     let here = c.loop-i-test.true in
     let read = c.read-p.ensures in
-    ⊎_elim
-    (λ w. turn_first T x.n x.slot x.first x.count x.kind (tvm_of x.fence) c.requires.2 c.loop-i.i c.loop-i.seen _ _ _ here c.loop-i.invariant _ _ read
-    first.ensures.1 _ _ _ (sym first.ensures.0 ∙ w.0.taken) w.2.left w.6 (w.7 ∙ w.3.ensures) (w.8 ∙ w.4.ensures))
-    (λ w. turn_other T x.n x.slot x.first x.count x.kind (tvm_of x.fence) c.requires.2 c.loop-i.i c.loop-i.seen _ _ _ here c.loop-i.invariant _ _ read
-    first.ensures.1 _ _ _ (sym first.ensures.0 ∙ w.0.left) w.1 w.2 w.3)
-    c.if-is_first.branch
+    elim c.if-is_first.branch [
+      then-is_first+else-p-kind+else-missing-eq0 w ↦ turn_first T x.n x.slot x.first x.count x.kind (tvm_of x.fence) c.requires.2 c.loop-i.i c.loop-i.seen _ _ _ here c.loop-i.invariant _ _ read
+      first.ensures.1 _ _ _ (sym first.ensures.0 ∙ w.if-is_first.true) w.if-p-kind.false w.missing-is (w.undone-is ∙ w.with_undone-undone.ensures)
+      (w.cut-is ∙ w.with_cut-cut.ensures)
+      | else-is_first w ↦ turn_other T x.n x.slot x.first x.count x.kind (tvm_of x.fence) c.requires.2 c.loop-i.i c.loop-i.seen _ _ _ here c.loop-i.invariant _ _ read
+      first.ensures.1 _ _ _ (sym first.ensures.0 ∙ w.if-is_first.false) w.missing-is w.undone-is w.cut-is
+    ]
+
 
 pub returns-then-missing-eq0-2 : goal.returns-then-missing-eq0-2
 returns-then-missing-eq0-2 c = looked_full _ _ _ _ _ _ _ _ _ _ _ _ c.loop-i.invariant c.if-missing-eq0-2.true

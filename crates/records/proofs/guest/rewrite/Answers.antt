@@ -1,91 +1,102 @@
 -- `records::guest::rewrite` meets its contract: a pass that writes the records that are meant; what it has written changes no record to come, and it
 -- ends where none to come is meant.
 -- Assumes nothing.
-use Prim.Native.Nat.{◌+◌, ◌-◌, ◌≤◌}
+use Prim.Native.Nat.{ℕ, ◌<◌, ◌+◌, ◌-◌, ◌≤◌}
 use mathlib.Core.Path.{◌≡◌, refl, sym, ◌∙◌, ap}
 use mathlib.Core.Logic.{⊎_elim}
-use mathlib.Core.Bool.{true, false}
+use mathlib.Core.List.{List}
+use mathlib.Core.Bool.{Bool, true, false}
 use native.Mathlib.Omega.{arith}
 use lib.ListN.{length}
 use borrow.Author.Rules.{rules}
 use borrow.Author.Tests.{le-ltb}
 use Rattle.rules.specs.declared.Page.{Page}
-use Rattle.rules.specs.Page.{is_meant}
+use Rattle.rules.specs.Page.{Table, is_meant}
 use Rattle.rules.specs.Encoding.{pages_of}
-use Rattle.records.specs.Passes.{is_new, noted, becomes}
+use Rattle.records.specs.Passes.{put_page, is_new, noted, becomes}
 use Rattle.records.proofs.Meant.{Seen, seen_none, new_is, seen_next, tally, tally_none, tally_new, tally_old, room, none_left}
 use Rattle.records.proofs.WritePass.{up_to, pass_none, pass_put, pass_skip, at_hand, pass_end}
 use Rattle.records.proofs.guest.rewrite.Goals as goal
+use Rattle.records.proofs.guest.rewrite.Goals.{then-is_first+else-left-eq0, else-is_first}
 
 pub loop-i-init : goal.loop-i-init
 loop-i-init c = (search rules, refl, pass_none _ _ _, seen_none _ _ _ _, omega (arith, tally_none c.args.count))
 
-turn c =
-    let at = c.before.before.before.before.before in
-    let x = at.before.before.args in
-    let T = pages_of x.t.now in
-    let inv = at.loop.invariant in
-    let few = at.before.before.requires.2 in
-    let here = c.before.before.before.before.loop-test.true in
-    let read = c.before.before.read.ensures ∙ at_hand T _ _ at.loop.i _ inv.2 in
-    let new = c.is-first.ensures.0 ∙ ap (λ (p : Page). is_new x.slot x.first x.count p at.loop.seen) read in
-    let notes = c.is-first.ensures.1 ∙ ap (λ (p : Page). noted x.slot x.first x.count p at.loop.seen) read in
-    let on = ap (tally x.count) notes in (
-      read,
-      new ∙ new_is T x.slot x.first x.count x.n at.loop.i at.loop.seen few here inv.3,
-      seen_next T x.slot x.first x.count x.n at.loop.i at.loop.seen few here inv.3 _ notes,
+-- what a turn knows once the record was asked
+turn : (T : Table) (n slot first count i : ℕ) (seen seen' : List ℕ) (left : ℕ) (p : Page) (r : Bool)
+    → count ≤ 4096 → i < n → Seen T slot first count i seen → left + tally count seen ≡ count → p ≡ T.page i
+    → (r ≡ is_new slot first count p seen) × (seen' ≡ noted slot first count p seen)
+    → (r ≡ is_meant T n slot first count i)
+    × Seen T slot first count (i + 1) seen'
+    × (r ≡ true → (1 ≤ left) × (left - 1 + tally count seen' ≡ count))
+    × (r ≡ false → left + tally count seen' ≡ count)
+turn T n slot first count i seen seen' left p r few here inv all read said =
+    let new = said.0 ∙ ap (λ (q : Page). is_new slot first count q seen) read in
+    let notes = said.1 ∙ ap (λ (q : Page). noted slot first count q seen) read in
+    let on = ap (tally count) notes in (
+      new ∙ new_is T slot first count n i seen few here inv,
+      seen_next T slot first count n i seen few here inv _ notes,
       λ e.
-          let m = tally_new T x.slot x.first x.count x.n at.loop.i at.loop.seen few here inv.3 (sym new ∙ e) in
-          let r = room T x.slot x.first x.count x.n at.loop.i at.loop.seen few here inv.3 (sym new ∙ e) in
-          (omega (arith, r, inv.4), omega (arith, m, r, on, inv.4)),
-      λ e. omega (arith, tally_old T x.slot x.first x.count x.n at.loop.i at.loop.seen few here inv.3 (sym new ∙ e), on, inv.4),
+          let m = tally_new T slot first count n i seen few here inv (sym new ∙ e) in
+          let q = room T slot first count n i seen few here inv (sym new ∙ e) in
+          (omega (arith, q, all), omega (arith, m, q, on, all)),
+      λ e. omega (arith, tally_old T slot first count n i seen few here inv (sym new ∙ e), on, all),
     )
 
-written c =
-    let at = c.before.before.before.before.before.before.before.before.before in
-    let x = at.before.before.args in
-    let T = pages_of x.t.now in
-    let known = turn c.before.before.before.before in
-    c.write.ensures
-    ∙ rw (c.before.moved.ensures, known.0)
-    (pass_put T (is_meant T x.n x.slot x.first x.count) (λ j. becomes x.kind x.slot x.version (T.page j)) at.loop.i _ at.loop.invariant.2 (sym known.1 ∙ c.before.before.before.if1.true))
+-- and once it was written
+written : (T : Table) (n slot first count kind version i : ℕ) (t t' : List ℕ) (p m : Page)
+    → pages_of t ≡ up_to T (is_meant T n slot first count) (λ j. becomes kind slot version (T.page j)) i → p ≡ T.page i → m ≡ becomes kind slot version p
+    → is_meant T n slot first count i ≡ true → pages_of t' ≡ put_page i m (pages_of t)
+    → pages_of t' ≡ up_to T (is_meant T n slot first count) (λ j. becomes kind slot version (T.page j)) (i + 1)
+written T n slot first count kind version i t t' p m sofar read moved is wrote =
+    wrote ∙ rw (moved, read) (pass_put T (is_meant T n slot first count) (λ j. becomes kind slot version (T.page j)) i _ sofar is)
 
 pub overflow_sub-left : goal.overflow_sub-left
-overflow_sub-left c = ((turn @@After-is_first@@).3 c.if-is_first.true).0
-
--- OLD GOAL same-length: no such goal now
--- same_length c = omega (arith, c.before.before.before.write.auto.0, c.before.before.before.before.before.before.before.before.before.before.before.before.loop.invariant.1)
+overflow_sub-left c =
+    let x = c.args in
+    let T = pages_of x.t.now in
+    let inv = c.loop-i.invariant in
+    let read = c.read-p.ensures ∙ at_hand T _ _ c.loop-i.i _ inv.2 in
+    let known = turn T x.n x.slot x.first x.count c.loop-i.i c.loop-i.seen _ c.loop-i.left _ _ c.requires.2 c.loop-i-test.true inv.3 inv.4 read c.is_first.ensures in
+    (known.2 c.if-is_first.true).0
 
 pub returns-then-left-eq0 : goal.returns-then-left-eq0
 returns-then-left-eq0 c =
     let x = c.args in
     let T = pages_of x.t.now in
-    let known = turn @@After-is_first@@ in
-    let full : tally x.count c.is_first.new.0 ≡ x.count = omega (arith, (known.3 c.if-is_first.true).1, c.if-left-eq0.true) in
-    written @@After-write@@ ∙ pass_end T _ _ (c.loop.i + 1) (none_left T x.n x.slot x.first x.count (c.loop.i + 1) _ known.2 full)
+    let inv = c.loop-i.invariant in
+    let read = c.read-p.ensures ∙ at_hand T _ _ c.loop-i.i _ inv.2 in
+    let known = turn T x.n x.slot x.first x.count c.loop-i.i c.loop-i.seen _ c.loop-i.left _ _ c.requires.2 c.loop-i-test.true inv.3 inv.4 read c.is_first.ensures in
+    let met : is_meant T x.n x.slot x.first x.count c.loop-i.i ≡ true = sym known.0 ∙ c.if-is_first.true in
+    let full : tally x.count c.is_first.new.seen ≡ x.count = omega (arith, (known.2 c.if-is_first.true).1, c.if-left-eq0.true) in
+    written T x.n x.slot x.first x.count x.kind x.version c.loop-i.i _ _ _ _ inv.2 read c.moved.ensures met c.write.ensures
+    ∙ pass_end T _ _ (c.loop-i.i + 1) (none_left T x.n x.slot x.first x.count (c.loop-i.i + 1) _ known.1 full)
 
 pub loop-i-preserved : goal.loop-i-preserved
 loop-i-preserved c =
-    let known = turn @@After-is_first@@ in
-    ⊎_elim
-    (λ w. (
-      omega arith,
-      omega (arith, w.3.kept.0, ap length w.7),
-      ap pages_of w.7 ∙ written (record { before = record { before = record { before = record { before = @@After-is_first@@; if1 = w.0 }; write-arg = w.1 }; moved = w.2 }; write = w.3 }),
-      known.2,
-      omega (arith, w.8, (known.3 w.0.taken).1),
-    ))
-    (λ w. (
-      omega arith,
-      omega (arith, ap length w.1),
-      ap pages_of w.1 ∙ pass_skip (pages_of c.args.t.now) _ _ c.loop.i _ c.loop.invariant.2 (sym known.1 ∙ w.0.left),
-      known.2,
-      omega (arith, w.2, known.4 w.0.left),
-    ))
-    c.if-is_first.branch
-
--- OLD GOAL same-length-2: no such goal now
--- same-length-2 c = c.before.loop.invariant.1
+    let x = c.args in
+    let T = pages_of x.t.now in
+    let inv = c.loop-i.invariant in
+    let read = c.read-p.ensures ∙ at_hand T _ _ c.loop-i.i _ inv.2 in
+    let known = turn T x.n x.slot x.first x.count c.loop-i.i c.loop-i.seen _ c.loop-i.left _ _ c.requires.2 c.loop-i-test.true inv.3 inv.4 read c.is_first.ensures in
+    let kept : length c.if-is_first.t ≡ length x.t.now = omega (arith, c.if-is_first.auto.t, c.loop-i.auto.t) in
+    elim c.if-is_first.branch [
+      then-is_first+else-left-eq0 w ↦ (
+        omega arith,
+        kept,
+        ap pages_of w.t-is
+            ∙ written T x.n x.slot x.first x.count x.kind x.version c.loop-i.i _ _ _ _ inv.2 read w.moved.ensures (sym known.0 ∙ w.if-is_first.true) w.write.ensures,
+        known.1,
+        omega (arith, w.left-is, (known.2 w.if-is_first.true).1),
+      )
+      | else-is_first w ↦ (
+        omega arith,
+        kept,
+        ap pages_of w.t-is ∙ pass_skip T _ _ c.loop-i.i _ inv.2 (sym known.0 ∙ w.if-is_first.false),
+        known.1,
+        omega (arith, w.left-is, known.3 w.if-is_first.false),
+      )
+    ]
 
 pub returns : goal.returns
 unfolding is_meant

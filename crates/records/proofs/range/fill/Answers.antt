@@ -27,13 +27,13 @@ pub loop-i-preserved : goal.loop-i-preserved
 loop-i-preserved c =
     let x = c.args in (
       omega arith,
-      omega (arith, c.write.auto.0),
+      omega (arith, c.write.auto.t),
       c.write.ensures
           ∙ rw c.page_of.ensures (pass_put (pages_of x.part.now) (λ j. true) (stepped x.p x.step) c.loop-i.i _ c.loop-i.invariant.2 refl),
     )
 
--- OLD GOAL same-length: no such goal now
--- same_length c = c.before.loop.invariant.1
+
+
 
 pub returns : goal.returns
 returns c =

@@ -22,13 +22,13 @@ pub returns-then-not-is_wanted : goal.returns-then-not-is_wanted
 unfolding range_look
 returns-then-not-is_wanted c =
     let x = c.args in
-    rw (any_hit (λ j. not (wanted x.host ((pages_of x.t.now).page (x.first + j)).kind)) c.loop-i.i x.count c.loop-i-test.true (rw (← c.read-p.ensures, ← c.is_wanted.ensures) c.if-not-is_wanted.true))
+    rw (any_hit (λ j. not (wanted x.host ((pages_of x.t.now).page (x.first + j)).kind)) c.loop-i.i x.count c.loop-i-test.true (rw (← c.read-p.ensures, ← c.is_wanted.ensures, c.if-not-is_wanted.true) refl))
 
 pub loop-i-preserved : goal.loop-i-preserved
 loop-i-preserved c =
     let read = c.read-p.ensures in (
       omega arith,
-      any_more _ c.loop-i.i c.loop-i.invariant.1 (rw (← read, ← c.is_wanted.ensures) c.if-not-is_wanted.false),
+      any_more _ c.loop-i.i c.loop-i.invariant.1 (rw (← read, ← c.is_wanted.ensures, c.if-not-is_wanted.false) refl),
       rw (any_next, ← read, ← c.is_unfinished-waits.ensures, ← c.loop-i.invariant.2),
     )
 

@@ -25,8 +25,8 @@ bounds-t-a-7 c = simp length-set (omega arith)
 pub bounds-t-a-8 : goal.bounds-t-a-8
 bounds-t-a-8 c = simp length-set (omega arith)
 
--- OLD GOAL same-length: no such goal now
--- same_length c = simp length-set
+
+
 
 pub returns : goal.returns
 returns c =

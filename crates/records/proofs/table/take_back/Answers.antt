@@ -13,10 +13,9 @@ use Rattle.rules.specs.Page.{page, is_given}
 use Rattle.rules.specs.Encoding.{pages_of}
 use Rattle.records.proofs.WritePass.{up_to, pass_none, pass_put, pass_skip, at_hand, pass_end}
 use Rattle.records.proofs.Bytes.{page_past}
+use Rattle.records.proofs.table.take_back.Invariants.{given}
 use Rattle.records.proofs.table.take_back.Goals as goal
-
-abbrev given : ℕ → Page → Bool
-given slot p = is_given p && eqb p.slot slot
+use Rattle.records.proofs.table.take_back.Goals.{then-is_given, else-is_given}
 
 pub loop-i-init : goal.loop-i-init
 loop-i-init c = (search rules, refl, pass_none _ _ _)
@@ -27,14 +26,19 @@ loop-i-preserved c =
     let T = pages_of x.t.now in
     let which : ℕ → Bool = λ j. given x.slot (T.page j) in
     let new : ℕ → Page = λ j. page 2 0 0 0 in
-    let here = c.is_given.ensures ∙ ap (given x.slot) (c.read.ensures ∙ at_hand T which new c.loop.i _ c.loop.invariant.2) in
-    ⊎_elim
-    (λ w. (omega arith, omega (arith, w.2.kept.0, ap length w.5), ap pages_of w.5 ∙ w.2.ensures ∙ pass_put T which new c.loop.i _ c.loop.invariant.2 (sym here ∙ w.0.taken)))
-    (λ w. (omega arith, omega (arith, ap length w.1), ap pages_of w.1 ∙ pass_skip T which new c.loop.i _ c.loop.invariant.2 (sym here ∙ w.0.left)))
-    c.if-is_given.branch
-
--- OLD GOAL same-length: no such goal now
--- same_length c = c.before.loop.invariant.1
+    let here = c.is_given.ensures ∙ ap (given x.slot) (c.read.ensures ∙ at_hand T which new c.loop-i.i _ c.loop-i.invariant.2) in
+    elim c.if-is_given.branch [
+      then-is_given w ↦ (
+        omega arith,
+        omega (arith, c.if-is_given.auto.t, c.loop-i.auto.t),
+        ap pages_of w.t-is ∙ w.write.ensures ∙ pass_put T which new c.loop-i.i _ c.loop-i.invariant.2 (sym here ∙ w.if-is_given.true),
+      )
+      | else-is_given w ↦ (
+        omega arith,
+        omega (arith, c.if-is_given.auto.t, c.loop-i.auto.t),
+        ap pages_of w.t-is ∙ pass_skip T which new c.loop-i.i _ c.loop-i.invariant.2 (sym here ∙ w.if-is_given.false),
+      )
+    ]
 
 pub returns : goal.returns
 returns c =
