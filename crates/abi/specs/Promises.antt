@@ -1,5 +1,5 @@
 -- What is proved of the C entry beside its promise.
-use Rattle.sets.specs.Terms.{ℕ, ◌≡◌, List}
+use Rattle.std.specs.Prelude.{ℕ, ◌≡◌, List}
 use Rattle.rules.specs.declared.Call.{Call}
 use Rattle.abi.specs.declared.Reply.{Reply}
 use Rattle.abi.specs.Replied.{Replied}

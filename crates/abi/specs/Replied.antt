@@ -1,5 +1,5 @@
 -- The promise of the C entry: that of a call, its answer given by document 01's error and value.
-use Rattle.sets.specs.Terms.{ℕ, ◌≡◌, List}
+use Rattle.std.specs.Prelude.{ℕ, ◌≡◌, List}
 use Rattle.rules.specs.declared.Call.{Call}
 use Rattle.rules.specs.declared.Answer.{Answer}
 use Rattle.rules.specs.Step.{error_of, value_of}

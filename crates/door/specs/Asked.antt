@@ -1,5 +1,6 @@
 -- What the twelve words of the door say.
-use Rattle.sets.specs.Terms.{ℕ, ◌*◌, ◌/◌, Bool, false, cond, ◌&&◌, List, [], ◌∷◌, ◌≡◌, length, get_or, ltb, eqb, one_of}
+use Rattle.std.specs.Prelude.{ℕ, ◌*◌, ◌/◌, Bool, false, cond, ◌&&◌, List, [], ◌∷◌, ◌≡◌, length, get_or, ltb, eqb}
+use Rattle.sets.specs.Terms.{one_of}
 use Rattle.sets.specs.Set.{member, with}
 use Rattle.rules.specs.declared.Call.{Call}
 use Rattle.rules.specs.declared.Role.{Role}

@@ -1,5 +1,5 @@
 -- The parts of refusal 5 over plain numbers.
-use Rattle.sets.specs.Terms.{ℕ, ◌+◌, ◌*◌, ◌/◌, ◌^◌, ◌<◌, ◌≡◌, Bool, true, false, cond, ◌||◌, ltb, eqb}
+use Rattle.std.specs.Prelude.{ℕ, ◌+◌, ◌*◌, ◌/◌, ◌^◌, ◌<◌, ◌≡◌, Bool, true, false, cond, ◌||◌, ltb, eqb}
 use Rattle.rules.specs.declared.Call.{Call}
 use Rattle.rules.specs.declared.Role.TheVariants.{HostBase, FreeBase, DirectoryBase, GuestBase}
 use Rattle.rules.specs.Calls.{names}

@@ -1,5 +1,5 @@
 -- A call that is none of refusals 1 to 5, with what the door made of it.
-use Rattle.sets.specs.Terms.{ℕ, ◌≡◌, List}
+use Rattle.std.specs.Prelude.{ℕ, ◌≡◌, List}
 use Rattle.rules.specs.declared.Call.{Call}
 use Rattle.rules.specs.Calls.{size}
 use Rattle.rules.specs.Refusals.{early, lowest_of}

@@ -1,6 +1,6 @@
 -- The code's trackers and marks as document 01's, and what beginning a fence and striking a hart out make of one.
 use Rattle.std.proofs.Math.Option.{Option, none, some}
-use Rattle.sets.specs.Terms.{ℕ, ◌+◌, min}
+use Rattle.std.specs.Prelude.{ℕ, ◌+◌, min}
 use Rattle.sets.specs.Set.{without}
 use Rattle.rules.specs.Fence.{Tracker}
 use Rattle.rules.specs.Encoding.{bits}

@@ -1,7 +1,7 @@
 -- Demand 3: what holds over any calls from a fresh ledger. All its definitions and statements; `Demand3`, at the end, names them all, and
 -- proofs/Demand3.antt proves it. A history is any list of calls, refused ones among them, from a ledger that is not open, on any lent table.
-use Rattle.std.specs.Prelude.{◌≢◌}
-use Rattle.sets.specs.Terms.{ℕ, ◌+◌, ◌-◌, ◌≤◌, ◌<◌, ◌≡◌, Bool, true, false, cond, not, ◌&&◌, ◌||◌, List, [], ◌∷◌, ltb, eqb, any_in, row, within, put}
+use Rattle.std.specs.Prelude.{◌≢◌, ℕ, ◌+◌, ◌-◌, ◌≤◌, ◌<◌, ◌≡◌, Bool, true, false, cond, not, ◌&&◌, ◌||◌, List, [], ◌∷◌, ltb, eqb}
+use Rattle.sets.specs.Terms.{any_in, row, within, put}
 use Rattle.rules.specs.declared.{Page.Page, Call.Call, Answer.Answer, Answer.TheVariants.Accepted, Answer.TheVariants.Refused}
 use Rattle.rules.specs.declared.Role.TheVariants.{Tvm, Vcpu, FreeBase, GuestBase, HartCount, PageCount}
 use Rattle.rules.specs.Page.{Table, is_given, claims, is_meant}

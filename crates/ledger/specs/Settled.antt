@@ -1,5 +1,6 @@
 -- A call on the typed ledger and table, as its code takes it: the call put together, and settled.
-use Rattle.sets.specs.Terms.{ℕ, ◌≡◌, false, [], ◌∷◌, eqb, any_in}
+use Rattle.std.specs.Prelude.{ℕ, ◌≡◌, false, [], ◌∷◌, eqb}
+use Rattle.sets.specs.Terms.{any_in}
 use Rattle.rules.specs.Page.{Table}
 use Rattle.rules.specs.Ledger.{Ledger}
 use Rattle.rules.specs.declared.Call.{Call}

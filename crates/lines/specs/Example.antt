@@ -1,5 +1,5 @@
 -- Document 01's example, and the same tape with a byte too many.
-use Rattle.sets.specs.Terms.{ℕ, ◌≡◌, List, [], ◌∷◌, ◌++◌}
+use Rattle.std.specs.Prelude.{ℕ, ◌≡◌, List, [], ◌∷◌, ◌++◌}
 use Rattle.rules.specs.declared.Call.{Call}
 use Rattle.tape.specs.Tape.{tape_of}
 use Rattle.lines.specs.Lines.{printed}

@@ -1,5 +1,5 @@
 -- What is proved of the definitions, and what follows from the promise of `print`, as statements.
-use Rattle.sets.specs.Terms.{ℕ, ◌+◌, ◌-◌, ◌*◌, ◌≤◌, ◌≡◌, List, [], ◌∷◌, length}
+use Rattle.std.specs.Prelude.{ℕ, ◌+◌, ◌-◌, ◌*◌, ◌≤◌, ◌≡◌, List, [], ◌∷◌, length}
 use Rattle.lines.specs.Text.{decimal}
 use Rattle.lines.specs.Lines.{Printed}
 

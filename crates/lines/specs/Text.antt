@@ -1,7 +1,6 @@
 -- Numbers as text, in ASCII, and what it means that text was written into lent bytes. Assumes nothing.
-use Rattle.std.specs.Prelude.{ℤ, pos, negsuc}
+use Rattle.std.specs.Prelude.{ℤ, pos, negsuc, ℕ, zero, suc, ◌+◌, ◌/◌, ◌%◌, ◌≡◌, cond, List, [], ◌∷◌, ◌++◌, ltb, length}
 use Rattle.std.proofs.lemmas.List.Edits.{sets}
-use Rattle.sets.specs.Terms.{ℕ, zero, suc, ◌+◌, ◌/◌, ◌%◌, ◌≡◌, cond, List, [], ◌∷◌, ◌++◌, ltb, length}
 
 -- the decimal digits of n, the highest first, `most` of them at most
 unfoldable pub digits : ℕ → ℕ → List ℕ

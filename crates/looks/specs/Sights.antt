@@ -1,6 +1,7 @@
 -- What a look at the records that a call names says of refusals 6, 7 and 14. It ends at the first record that is not as wanted, so 7 and 14 are
 -- known only where 6 does not hold.
-use Rattle.sets.specs.Terms.{ℕ, ◌+◌, ◌*◌, ◌≤◌, Bool, true, false, cond, List, length, ◌≡◌, row}
+use Rattle.std.specs.Prelude.{ℕ, ◌+◌, ◌*◌, ◌≤◌, Bool, true, false, cond, List, length, ◌≡◌}
+use Rattle.sets.specs.Terms.{row}
 use Rattle.rules.specs.Page.{Table}
 use Rattle.rules.specs.Fence.{Tracker}
 use Rattle.rules.specs.Ledger.{Ledger}

@@ -1,5 +1,6 @@
 -- What the passes over records find and write, in the words of document 01's definitions.
-use Rattle.sets.specs.Terms.{ℕ, ◌+◌, ◌-◌, ◌*◌, ◌%◌, Bool, cond, not, ◌&&◌, ◌||◌, List, ltb, leb, eqb, within, put}
+use Rattle.std.specs.Prelude.{ℕ, ◌+◌, ◌-◌, ◌*◌, ◌%◌, Bool, cond, not, ◌&&◌, ◌||◌, List, ltb, leb, eqb}
+use Rattle.sets.specs.Terms.{within, put}
 use Rattle.sets.specs.Look.{any}
 use Rattle.sets.specs.Pages.{member_in, with_in}
 use Rattle.rules.specs.declared.Page.{Page}

@@ -1,5 +1,6 @@
 -- Document 01, "Calls": what each argument of a call is, and the phases in which the call is lawful.
-use Rattle.sets.specs.Terms.{ℕ, ◌-◌, ◌*◌, ◌/◌, Bool, false, cond, ◌||◌, List, [], ◌∷◌, ltb, eqb, length, drop, any_in}
+use Rattle.std.specs.Prelude.{ℕ, ◌-◌, ◌*◌, ◌/◌, Bool, false, cond, ◌||◌, List, [], ◌∷◌, ltb, eqb, length, drop}
+use Rattle.sets.specs.Terms.{any_in}
 pub use Rattle.rules.specs.declared.Call.{Call}
 pub use Rattle.rules.specs.declared.Role.{Role}
 pub use Rattle.rules.specs.declared.Role.TheVariants.{Tvm, Vcpu, HostBase, FreeBase, DirectoryBase, UnitCount, UnitType, GuestBase, ByteLength, HartCount, PageCount}

@@ -1,6 +1,7 @@
 -- Document 01, "Calls": what success does to the table and to the ledger, and its value.
 use Rattle.std.proofs.Math.Option.{some}
-use Rattle.sets.specs.Terms.{ℕ, ◌+◌, ◌-◌, min, Bool, true, cond, ◌&&◌, ltb, eqb, any_in, row, within, put}
+use Rattle.std.specs.Prelude.{ℕ, ◌+◌, ◌-◌, min, Bool, true, cond, ◌&&◌, ltb, eqb}
+use Rattle.sets.specs.Terms.{any_in, row, within, put}
 use Rattle.sets.specs.Look.{lowest}
 use Rattle.rules.specs.Page.{Page, Table, over, page, moved, guest_word, is_given, is_meant}
 use Rattle.rules.specs.Fence.{begin, strike, number}

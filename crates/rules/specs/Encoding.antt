@@ -1,6 +1,6 @@
 -- How the lent words show a ledger, and the lent bytes a table. Every word and every byte is read whole, so nothing is lost.
 use Rattle.std.proofs.Math.Option.{Option, none, some}
-use Rattle.sets.specs.Terms.{ℕ, ◌+◌, ◌-◌, ◌*◌, ◌/◌, ◌%◌, ◌^◌, ◌<◌, ◌≡◌, Bool, cond, List, ltb, eqb, length, get_or}
+use Rattle.std.specs.Prelude.{ℕ, ◌+◌, ◌-◌, ◌*◌, ◌/◌, ◌%◌, ◌^◌, ◌<◌, ◌≡◌, Bool, cond, List, ltb, eqb, length, get_or}
 use Rattle.sets.specs.Set.{member}
 use Rattle.rules.specs.Page.{Page, Table, page}
 use Rattle.rules.specs.Fence.{Tracker}

@@ -1,5 +1,6 @@
 -- Document 01, "Fences".
-use Rattle.sets.specs.Terms.{ℕ, ◌+◌, Bool, false, not, ◌&&◌, ◌||◌, leb, eqb, put}
+use Rattle.std.specs.Prelude.{ℕ, ◌+◌, Bool, false, not, ◌&&◌, ◌||◌, leb, eqb}
+use Rattle.sets.specs.Terms.{put}
 use Rattle.sets.specs.Look.{any, count}
 
 -- a set of harts, of which there are at most 8

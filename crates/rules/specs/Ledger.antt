@@ -1,6 +1,7 @@
 -- Document 01, "What the ledger covers" and "Fences": what the ledger keeps. The global fence, 16 slots, 8 harts.
 use Rattle.std.proofs.Math.Option.{Option, none, some}
-use Rattle.sets.specs.Terms.{ℕ, ◌+◌, ◌*◌, Bool, true, false, not, ◌&&◌, ltb, eqb, put, within}
+use Rattle.std.specs.Prelude.{ℕ, ◌+◌, ◌*◌, Bool, true, false, not, ◌&&◌, ltb, eqb}
+use Rattle.sets.specs.Terms.{put, within}
 use Rattle.rules.specs.Fence.{Harts, Tracker}
 
 -- a region: its first guest page and how many there are; one of no pages is none

@@ -1,5 +1,6 @@
 -- Document 01, "A page record".
-use Rattle.sets.specs.Terms.{ℕ, ◌+◌, ◌*◌, ◌/◌, ◌%◌, Bool, cond, not, ◌&&◌, ◌||◌, ltb, leb, eqb, within}
+use Rattle.std.specs.Prelude.{ℕ, ◌+◌, ◌*◌, ◌/◌, ◌%◌, Bool, cond, not, ◌&&◌, ◌||◌, ltb, leb, eqb}
+use Rattle.sets.specs.Terms.{within}
 use Rattle.sets.specs.Look.{lowest}
 pub use Rattle.rules.specs.declared.Page.{Page}
 

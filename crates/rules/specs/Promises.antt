@@ -1,6 +1,5 @@
 -- What is proved of the definitions, as statements. The words quoted are those of the three demands.
-use Rattle.std.specs.Prelude.{◌↔◌, replicate}
-use Rattle.sets.specs.Terms.{ℕ, ◌+◌, ◌*◌, ◌≤◌, ◌<◌, ◌^◌, ◌≡◌, Bool, true, false, List, [], ◌∷◌, map, length, get_or}
+use Rattle.std.specs.Prelude.{◌↔◌, replicate, ℕ, ◌+◌, ◌*◌, ◌≤◌, ◌<◌, ◌^◌, ◌≡◌, Bool, true, false, List, [], ◌∷◌, map, length, get_or}
 use Rattle.rules.specs.Page.{Table}
 use Rattle.rules.specs.Ledger.{Ledger, opened}
 use Rattle.rules.specs.Calls.{Call}

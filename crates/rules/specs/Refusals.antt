@@ -1,5 +1,6 @@
 -- Document 01, "Refusal numbers": one condition for each number, and the lowest that holds.
-use Rattle.sets.specs.Terms.{ℕ, suc, ◌+◌, ◌*◌, ◌%◌, min, max, Bool, cond, not, ◌&&◌, ◌||◌, List, [], ◌∷◌, ◌++◌, ltb, leb, eqb, one_of, any_in, row, within}
+use Rattle.std.specs.Prelude.{ℕ, suc, ◌+◌, ◌*◌, ◌%◌, min, max, Bool, cond, not, ◌&&◌, ◌||◌, List, [], ◌∷◌, ◌++◌, ltb, leb, eqb}
+use Rattle.sets.specs.Terms.{one_of, any_in, row, within}
 use Rattle.sets.specs.Look.{any, lowest}
 use Rattle.rules.specs.Page.{Page, Table, fits, is_free, is_cut, meant}
 use Rattle.rules.specs.Fence.{done, someone}

@@ -1,6 +1,6 @@
 -- Document 01, "Seatings on each side of a line": S1 to S8 and S13 to S16, two harts and 16 pages, fresh each time. S10 and S11, of those
 -- that are run, stand here too: they guard the hart's mark and the slot's version.
-use Rattle.sets.specs.Terms.{ℕ, List, [], ◌∷◌, ◌++◌, map}
+use Rattle.std.specs.Prelude.{ℕ, List, [], ◌∷◌, ◌++◌, map}
 use Rattle.rules.specs.Page.{Table, page}
 use Rattle.rules.specs.Calls.{Call}
 use Rattle.rules.specs.Step.{Answer, Accepted, Refused, unopened, answers}

@@ -1,6 +1,5 @@
 -- One call, and a run of calls.
-use Rattle.std.specs.Prelude.{ℤ, pos, neg_ℤ}
-use Rattle.sets.specs.Terms.{ℕ, zero, suc, List, [], ◌∷◌, map, get_or}
+use Rattle.std.specs.Prelude.{ℤ, pos, neg_ℤ, ℕ, zero, suc, List, [], ◌∷◌, map, get_or}
 use Rattle.rules.specs.Page.{Table}
 use Rattle.rules.specs.Ledger.{Ledger, opened}
 use Rattle.rules.specs.Calls.{Call}

@@ -1,5 +1,5 @@
 -- What the rows of the code's constant table of calls say.
-use Rattle.sets.specs.Terms.{ℕ, ◌+◌, ◌*◌, ◌∷◌, map, min, get_or}
+use Rattle.std.specs.Prelude.{ℕ, ◌+◌, ◌*◌, ◌∷◌, map, min, get_or}
 use Rattle.rules.specs.Calls.{Phases, no_phase, I, R, IR, code, entry_of}
 
 -- the phases as a set: phase p is binary digit p

@@ -1,5 +1,5 @@
 -- Who is where, as refusal 12 and the fence of a TVM ask it.
-use Rattle.sets.specs.Terms.{ℕ, Bool, true, false, cond, ◌&&◌, ◌||◌, eqb}
+use Rattle.std.specs.Prelude.{ℕ, Bool, true, false, cond, ◌&&◌, ◌||◌, eqb}
 use Rattle.rules.specs.Fence.{Harts, someone}
 use Rattle.rules.specs.Ledger.{Ledger, Place, is_in_slot, is_at}
 

@@ -1,5 +1,5 @@
 -- The parts of refusal 10, told apart by a test.
-use Rattle.sets.specs.Terms.{ℕ, Bool, cond}
+use Rattle.std.specs.Prelude.{ℕ, Bool, cond}
 use Rattle.rules.specs.Ledger.{Region}
 use Rattle.rules.specs.Refusals.{holds, overlaps}
 

@@ -1,7 +1,6 @@
 -- A set of numbers in a list of words of w digits: number d is digit d % w of word d / w.
-use Rattle.sets.specs.Terms.{ℕ, ◌+◌, ◌/◌, ◌%◌, Bool, List, [], ◌∷◌, get_or}
+use Rattle.std.specs.Prelude.{ℕ, ◌+◌, ◌/◌, ◌%◌, Bool, List, [], ◌∷◌, get_or, set}
 use Rattle.std.specs.Int.Count.{ones}
-use Rattle.std.specs.Prelude.{set}
 use Rattle.sets.specs.Set.{member, with, without}
 
 unfoldable pub member_in : ℕ → ℕ → List ℕ → Bool

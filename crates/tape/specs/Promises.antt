@@ -1,5 +1,5 @@
 -- What is proved of the definitions, as statements: reading a tape yields exactly its records, in order, and ends.
-use Rattle.sets.specs.Terms.{ℕ, ◌+◌, ◌*◌, ◌≤◌, ◌<◌, ◌^◌, ◌≡◌, List, [], ◌∷◌, ◌++◌, length, drop}
+use Rattle.std.specs.Prelude.{ℕ, ◌+◌, ◌*◌, ◌≤◌, ◌<◌, ◌^◌, ◌≡◌, List, [], ◌∷◌, ◌++◌, length, drop}
 use Rattle.rules.specs.declared.Call.{Call}
 use Rattle.rules.specs.Encoding.{Numbers}
 use Rattle.tape.specs.declared.record.Step.{Step}

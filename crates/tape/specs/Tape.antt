@@ -1,6 +1,5 @@
 -- Document 01, "The tape and its printer": what stands at an offset of a tape, what a record asks, and the reading of a tape from its start.
-use Rattle.std.specs.Prelude.{take}
-use Rattle.sets.specs.Terms.{ℕ, zero, suc, ◌+◌, ◌-◌, ◌*◌, ◌/◌, ◌%◌, Bool, cond, ◌&&◌, List, [], ◌∷◌, ◌++◌, ltb, leb, eqb, length, get_or, drop}
+use Rattle.std.specs.Prelude.{take, ℕ, zero, suc, ◌+◌, ◌-◌, ◌*◌, ◌/◌, ◌%◌, Bool, cond, ◌&&◌, List, [], ◌∷◌, ◌++◌, ltb, leb, eqb, length, get_or, drop}
 use Rattle.rules.specs.declared.Call.{Call}
 use Rattle.tape.specs.declared.record.Step.{Step}
 use Rattle.tape.specs.declared.record.Step.TheVariants.{End, Short, Mark, Record}

@@ -1,5 +1,5 @@
 -- A fence's word put together, and the code's regions and places as the paper's.
-use Rattle.sets.specs.Terms.{ℕ, ◌+◌, ◌*◌, ◌<◌, ◌≡◌}
+use Rattle.std.specs.Prelude.{ℕ, ◌+◌, ◌*◌, ◌<◌, ◌≡◌}
 use Rattle.rules.specs.Ledger.{Region, Place, inside, outside}
 use Rattle.words.specs.declared.parts.Region as Regions
 use Rattle.words.specs.declared.parts.Place as Places
