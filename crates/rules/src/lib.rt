@@ -2,6 +2,7 @@
 
 #![tactic(auto)]
 
+pub mod numbers;
 pub mod tables;
 
 #[derive(Clone, Copy)]
@@ -20,17 +21,17 @@ pub struct Call {
 // 2, 10 and 12, 5's state page, 11's dest, 14's page).
 #[derive(Clone, Copy)]
 pub enum Role {
-    Tvm,
-    Vcpu,
-    HostBase,
-    FreeBase,
-    DirectoryBase,
-    UnitCount,
-    UnitType,
-    GuestBase,
-    ByteLength,
-    HartCount,
-    PageCount,
+    Tvm = 1,
+    Vcpu = 2,
+    HostBase = 3,
+    FreeBase = 4,
+    DirectoryBase = 5,
+    UnitCount = 6,
+    UnitType = 7,
+    GuestBase = 8,
+    ByteLength = 9,
+    HartCount = 10,
+    PageCount = 11,
 }
 
 // An accepted call's value, or the number of the refusal.
