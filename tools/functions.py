@@ -1,0 +1,35 @@
+"""The functions and methods of a crate's sources, in the kit's layout."""
+import collections
+import re
+
+# A head with its attributes, the line that opens the body, which ends at a brace as far in as the head, and what has methods: an impl and a trait.
+HEAD = re.compile(r'^( *)(?:#\[.*\]\n *)*(pub )?(?:final )?(?:const )?(?:extern "C" )?fn (\w+)', re.M)
+OPENS = r'^{0}(?:|\).* |(?:pub |final |const |extern "C" )*fn .* )\{{$'
+OWNER = re.compile(r"^(?:impl(?:<.*?>)? (?:(\w+)(?:<.*?>)? for )?(\w+)|(?:pub )?trait (\w+)).*\{$", re.M)
+ROOTS = ("lib", "main", "mod")
+
+# Its path in the crate, whether it is public, and where in the file it begins, its body begins and ends.
+Function = collections.namedtuple("Function", "path public file begins opens ends")
+
+
+def owners(text):
+    """Where each impl and trait begins and ends, and its part of a method's path: the type with the trait after it, or the trait."""
+    for owner in OWNER.finditer(text):
+        trait, of, own = owner.groups()
+        yield owner.end(), text.index("\n}", owner.end()), own or of + (trait or "")
+
+
+def functions(crate):
+    """Those that have a body, in the order of the files' names."""
+    for file in sorted((crate / "src").rglob("*.rt")):
+        text = file.read_text()
+        modules = [part for part in file.relative_to(crate / "src").with_suffix("").parts if part not in ROOTS]
+        owned = list(owners(text))
+        heads = list(HEAD.finditer(text))
+        for head, limit in zip(heads, [*(after.start() for after in heads[1:]), len(text)]):
+            inside, public, name = head.groups()
+            opens = re.compile(OPENS.format(inside), re.M).search(text, head.start(), limit)
+            if opens:
+                of = [part for begins, ends, part in owned if begins < head.start() < ends]
+                ends = text.index(f"\n{inside}}}", opens.end())
+                yield Function((*modules, *of, name), bool(public), file, head.start(), opens.end(), ends)
