@@ -7,10 +7,9 @@ use mathlib.Core.List.{List, [], ◌∷◌, ◌++◌}
 use Rattle.rules.specs.Page.{Table}
 use Rattle.rules.specs.Ledger.{Ledger}
 use Rattle.rules.specs.declared.Call.{Call}
-use Rattle.rules.specs.declared.Answer.TheVariants.{Accepted, Refused}
 use Rattle.rules.specs.Refusals.{early, late, lowest_of, refusal}
 use Rattle.rules.specs.Effects.{table, ledger, value}
-use Rattle.rules.specs.Step.{Outcome, settle, step}
+use Rattle.rules.specs.Step.{Accepted, Refused, Outcome, settle, step}
 use Rattle.ledger.specs.Settled.{state, Settled}
 
 module _ (l : Ledger) (t : Table) (c : Call) where

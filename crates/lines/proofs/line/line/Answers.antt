@@ -7,8 +7,7 @@ use native.Mathlib.Omega.{arith}
 use lib.ListN.{length}
 use mir.Syntax.{w64}
 use mir.Val.{to_z, of_z}
-use Rattle.rules.specs.declared.Answer.{Answer}
-use Rattle.rules.specs.Step.{error_of, value_of}
+use Rattle.rules.specs.Step.{Answer, error_of, value_of}
 use Rattle.lines.specs.Text.{decimal, blank}
 use Rattle.lines.specs.Lines.{told, line as lines_line}
 use Rattle.lines.proofs.Writes.{joined, room, shorter}
