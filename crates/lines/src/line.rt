@@ -1,5 +1,6 @@
 // The lines of document 01.
 ghost use Rattle.std.specs.Prelude.{◌+◌, ◌^◌, ◌<◌, ◌≤◌, length, ◌++◌};
+ghost use Rattle.rules.specs.Answers.{answer_of};
 ghost use Rattle.lines.specs.Text.{Written, blank};
 ghost use Rattle.lines.specs.Text.{decimal as text_decimal};
 ghost use Rattle.lines.specs.Lines.{told as lines_told, line as lines_line, noted as lines_noted, bad as lines_bad};
@@ -32,7 +33,7 @@ fn told(out: &mut [u8], at: usize, error: i64, value: u64) -> usize
 // "number from 1, call, error, value, single blanks": with no more than 4 and 3 digits before them, 33 bytes at most.
 pub fn line(out: &mut [u8], at: usize, number: u64, call: u64, answer: Answer) -> usize
     requires { (at + 33 ≤ length out.old) × (number < 10 ^ 4) × (call < 10 ^ 3) }
-    ensures { Written (lines_line number call answer) out.old at result out.new × (result ≤ at + 33) }
+    ensures { Written (lines_line number call (answer_of answer)) out.old at result out.new × (result ≤ at + 33) }
 {
     let error = error_of(answer);
     let value = value_of(answer);

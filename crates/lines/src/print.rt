@@ -1,5 +1,6 @@
 // What the program prints of a tape: a line for each record, in a lent buffer.
 ghost use Rattle.std.specs.Prelude.{◌≡◌, ◌≤◌, length};
+ghost use Rattle.rules.specs.Answers.{answer_of};
 ghost use Rattle.rules.specs.Encoding.{Called, state_of};
 ghost use Rattle.tape.specs.Tape.{args_at, call_of, reading};
 ghost use Rattle.lines.specs.Text.{Written};
@@ -21,7 +22,7 @@ fn answered(
     ledger: &mut Words,
     table: &mut [u8],
 ) -> Answer
-    ensures { Called ledger.old table.old (call_of call hart (args_at tape.now at)) result ledger.new table.new }
+    ensures { Called ledger.old table.old (call_of call hart (args_at tape.now at)) (answer_of result) ledger.new table.new }
 {
     let c = call_of(call, hart, args_at(tape, at));
     ledger::call(

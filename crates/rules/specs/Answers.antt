@@ -25,3 +25,8 @@ number_of LeftOutside = 15
 abbrev pub answer_of : Result ℕ Refusal → Answer
 answer_of (Ok value) = Accepted value
 answer_of (Err why) = Refused (number_of why)
+
+-- the number that is given; 0 where none is
+abbrev pub given : {A : Type 0} → Result A Refusal → ℕ
+given (Ok x) = 0
+given (Err why) = number_of why
