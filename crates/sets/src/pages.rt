@@ -2,25 +2,23 @@
 ghost use Rattle.std.specs.Prelude.{◌≡◌, ◌<◌};
 ghost use Rattle.sets.specs.Pages.{member_in, with_in, without_in};
 
-use super::word;
-
 pub fn has(s: &[u64; 64], d: usize) -> bool
     requires { d < 4096 }
     ensures { result ≡ member_in 64 d s.now }
 {
-    word::has(s[d / 64], d % 64)
+    super::has(s[d / 64], d % 64)
 }
 
 pub fn insert(s: &mut [u64; 64], d: usize)
     requires { d < 4096 }
     ensures { s.new ≡ with_in 64 s.old d }
 {
-    s[d / 64] = word::insert(s[d / 64], d % 64);
+    s[d / 64] = super::insert(s[d / 64], d % 64);
 }
 
 pub fn remove(s: &mut [u64; 64], d: usize)
     requires { d < 4096 }
     ensures { s.new ≡ without_in 64 s.old d }
 {
-    s[d / 64] = word::remove(s[d / 64], d % 64);
+    s[d / 64] = super::remove(s[d / 64], d % 64);
 }
