@@ -9,6 +9,7 @@ ghost use Rattle.sets.specs.Set.{member, with, without, full};
 pub use digits::Digits;
 
 // The number k is in the set.
+#[tactic(auto, unfolding(crate::specs::Set::member))]
 pub fn has<S: Digits>(set: S, k: usize) -> bool
     requires { k < S.width }
     ensures { result ≡ member k (S.number set) }
