@@ -37,7 +37,7 @@ fn one_role(s: u64, r: u64) -> u64
     requires { r < 12 }
     ensures { result ≡ with s r }
 {
-    sets::word::insert(s, r as usize)
+    sets::insert(s, r as usize)
 }
 
 fn roles(r0: u64, r1: u64, r2: u64, r3: u64, r4: u64, r5: u64) -> u64
@@ -58,9 +58,9 @@ fn marked(s: u64, spare: bool) -> u64
     ensures { result ≡ cond spare (with s 0) (without s 0) }
 {
     if spare {
-        sets::word::insert(s, 0)
+        sets::insert(s, 0)
     } else {
-        sets::word::remove(s, 0)
+        sets::remove(s, 0)
     }
 }
 

@@ -18,7 +18,7 @@ pub fn names(a: &[u64; 12], role: usize) -> bool
     requires { role < 12 }
     ensures { result ≡ member role (get_or a.now 0 0) }
 {
-    sets::word::has(a[0], role)
+    sets::has(a[0], role)
 }
 
 pub fn refuses1(l: &Words, t: &[u8], q: Call, row: u64) -> bool
@@ -99,7 +99,7 @@ pub fn is_made(l: &Words, k: u64, v: u64) -> bool
 {
     let set = parts::made(l, k);
     if v < 8 {
-        sets::has(set, v as u8)
+        sets::has(set, v as usize)
     } else {
         false
     }

@@ -13,7 +13,7 @@ pub fn global_fence(l: &mut Words, hart: u64) -> u64
     ensures { (result ≡ number (others_of (view l.old) hart)) × (view l.new ≡ with_global (begin (others_of (view l.old) hart) (view l.old).global) (view l.old)) }
 {
     let harts = sizes::harts(&*l);
-    let others = sets::remove(sets::first(harts), hart as u8);
+    let others = sets::remove(sets::first(harts), hart as usize);
     let g = parts::global(&*l);
     parts::set_global(l, global_begun(g, others));
     how_many(others) as u64

@@ -71,5 +71,5 @@ pub fn make_vcpu(l: &mut Words, k: u64, v: u64)
 {
     let t = parts::fence(&*l, k);
     let made = parts::made(&*l, k);
-    parts::set_made(l, k, t, sets::insert(made, v as u8));
+    parts::set_made(l, k, t, sets::insert(made, v as usize));
 }

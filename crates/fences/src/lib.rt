@@ -90,7 +90,7 @@ pub fn global_struck(g: GlobalTracker, hart: u8) -> GlobalTracker
     ensures { result ≡ global_struck g hart }
 {
     let version = g.version;
-    let awaited = sets::remove(g.awaited, hart);
+    let awaited = sets::remove(g.awaited, hart as usize);
     GlobalTracker { version, awaited }
 }
 
@@ -99,7 +99,7 @@ pub fn tvm_struck(t: TvmTracker, hart: u8) -> TvmTracker
     ensures { result ≡ tvm_struck t hart }
 {
     let version = t.version;
-    let awaited = sets::remove(t.awaited, hart);
+    let awaited = sets::remove(t.awaited, hart as usize);
     TvmTracker { version, awaited }
 }
 

@@ -11,6 +11,7 @@ use super::record::{read, write};
 use super::table::{claims_in, offset};
 use fences::{TvmTracker, TvmVersion, tvm_done};
 use rules::Page;
+use sets::pages::PageSet;
 
 // What a look over a guest range finds: a page that is not mapped or not as wanted; or all there, with a version that is not done, or a large
 // mapping that is cut.
@@ -21,17 +22,14 @@ pub enum Guests {
 }
 
 // The record is the first to claim one of the guest pages; that one is seen from now on.
-fn is_first(seen: &mut [u64; 64], p: Page, slot: u8, first: u32, count: u32) -> bool
+fn is_first(seen: &mut PageSet, p: Page, slot: u8, first: u32, count: u32) -> bool
     requires { (first + count ≤ 1048576) × (count ≤ 4096) }
     ensures { (result ≡ is_new slot first count p seen.old) × (seen.new ≡ noted slot first count p seen.old) }
 {
     if !claims_in(p, slot, first, count) {
         return false;
     }
-    let d = offset(p.guest, first) as usize;
-    let old = sets::pages::has(&*seen, d);
-    sets::pages::insert(seen, d);
-    !old
+    seen.insert(offset(p.guest, first) as usize)
 }
 
 fn is_cut(p: Page, first: u32, count: u32) -> bool
@@ -77,7 +75,7 @@ pub fn look(
     requires { (8 * n ≤ length t.now) × (first + count ≤ 1048576) × (count ≤ 4096) }
     ensures { result ≡ guest_look (pages_of t.now) n slot first count kind (tvm_of fence) }
 {
-    let mut seen = [0u64; 64];
+    let mut seen = PageSet::new();
     let mut missing = count;
     let mut undone = false;
     let mut cut = false;
@@ -136,7 +134,7 @@ pub fn rewrite(t: &mut [u8], n: usize, slot: u8, first: u32, count: u32, kind: u
     requires { (8 * n ≤ length t.old) × (first + count ≤ 1048576) × (count ≤ 4096) }
     ensures { pages_of t.new ≡ over (pages_of t.old) (is_meant (pages_of t.old) n slot first count) (λ i. becomes kind slot version ((pages_of t.old).page i)) }
 {
-    let mut seen = [0u64; 64];
+    let mut seen = PageSet::new();
     let mut left = count;
     let mut i = 0;
     while i < n {

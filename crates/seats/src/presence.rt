@@ -45,7 +45,7 @@ pub fn there(l: &Words, whole: bool, k: u64, v: u64) -> u8
     let mut h: u64 = 0;
     while h < 8 {
         if is_there(parts::place_of(l, h), whole, k, v) {
-            set = sets::insert(set, h as u8);
+            set = sets::insert(set, h as usize);
         }
         h += 1;
     }

@@ -16,7 +16,7 @@ use Rattle.sets.specs.Look.{count}
 use Rattle.sets.specs.Set.{member, with, without, full}
 use Rattle.sets.proofs.Bools.{by_test}
 use Rattle.sets.proofs.Looks.{count_low, count_same}
-use Rattle.sets.proofs.Digits.{bit, put, bit_lt, bit_shift, put_same, put_other, put_is, put_add, put_sub, put-or, put-and, put_lt, bit_ones, bit_past, same_digits}
+use Rattle.sets.proofs.BinaryDigits.{bit, put, bit_lt, bit_shift, put_same, put_other, put_is, put_add, put_sub, put-or, put-and, put_lt, bit_ones, bit_past, same_digits}
 
 pub member_is : (k s : ℕ) → member k s ≡ eqb (bit k s) 1
 unfolding member

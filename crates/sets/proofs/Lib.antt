@@ -1,5 +1,5 @@
+pub mod BinaryDigits
 pub mod Bools
-pub mod Digits
 pub mod Laws
 pub mod Looks
 pub mod OneOf

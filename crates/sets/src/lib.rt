@@ -6,25 +6,29 @@ ghost use Rattle.std.specs.Prelude.{◌≡◌, ◌<◌, ◌≤◌};
 ghost use Rattle.sets.specs.Look.{count};
 ghost use Rattle.sets.specs.Set.{member, with, without, full};
 
-pub fn has(s: u8, k: u8) -> bool
-    requires { k < 8 }
-    ensures { result ≡ member k s }
+pub use digits::Digits;
+
+// The number k is in the set.
+#[tactic(auto, unfolding(crate::specs::Set::member))]
+pub fn has<S: Digits>(set: S, k: usize) -> bool
+    requires { k < S.width }
+    ensures { result ≡ member k (S.number set) }
 {
-    word::has(s as u64, k as usize)
+    (set.word() >> k) % 2 == 1
 }
 
-pub fn insert(s: u8, k: u8) -> u8
-    requires { k < 8 }
-    ensures { result ≡ with s k }
+pub fn insert<S: Digits>(set: S, k: usize) -> S
+    requires { k < S.width }
+    ensures { S.number result ≡ with (S.number set) k }
 {
-    word::insert(s as u64, k as usize) as u8
+    S::from_word(set.word() | (1 << k))
 }
 
-pub fn remove(s: u8, k: u8) -> u8
-    requires { k < 8 }
-    ensures { result ≡ without s k }
+pub fn remove<S: Digits>(set: S, k: usize) -> S
+    requires { k < S.width }
+    ensures { S.number result ≡ without (S.number set) k }
 {
-    word::remove(s as u64, k as usize) as u8
+    S::from_word(set.word() & !(1 << k))
 }
 
 // How many members the set has.
@@ -42,5 +46,5 @@ pub fn first(n: u8) -> u8
     ((1u16 << n) - 1) as u8
 }
 
+mod digits;
 pub mod pages;
-pub mod word;

@@ -1,26 +1,52 @@
 // A set of numbers below 4,096 in 512 bytes: 64 words of 64 digits.
-ghost use Rattle.std.specs.Prelude.{◌≡◌, ◌<◌};
+ghost use Rattle.std.specs.Prelude.{◌≡◌, ◌<◌, ℕ, List, not, replicate};
 ghost use Rattle.sets.specs.Pages.{member_in, with_in, without_in};
 
-use super::word;
+use std::marker::Model;
 
-pub fn has(s: &[u64; 64], d: usize) -> bool
-    requires { d < 4096 }
-    ensures { result ≡ member_in 64 d s.now }
-{
-    word::has(s[d / 64], d % 64)
+#[derive(Drop)]
+pub struct PageSet {
+    words: [u64; 64],
 }
 
-pub fn insert(s: &mut [u64; 64], d: usize)
-    requires { d < 4096 }
-    ensures { s.new ≡ with_in 64 s.old d }
-{
-    s[d / 64] = word::insert(s[d / 64], d % 64);
+impl Model for PageSet {
+    ghost Value = { List ℕ };
+
+    ghost view = { λ set. set.words };
 }
 
-pub fn remove(s: &mut [u64; 64], d: usize)
-    requires { d < 4096 }
-    ensures { s.new ≡ without_in 64 s.old d }
-{
-    s[d / 64] = word::remove(s[d / 64], d % 64);
+impl PageSet {
+    pub fn new() -> PageSet
+        ensures { result ≡ replicate 64 0 }
+    {
+        PageSet { words: [0; 64] }
+    }
+
+    #[tactic(auto, unfolding(crate::specs::Pages::member_in))]
+    pub fn has(&self, d: usize) -> bool
+        requires { d < 4096 }
+        ensures { result ≡ member_in 64 d self.now }
+    {
+        super::has(self.words[d / 64], d % 64)
+    }
+
+    // Puts the number in, and says whether it is new.
+    #[tactic(auto, unfolding(crate::specs::Pages::with_in))]
+    pub fn insert(&mut self, d: usize) -> bool
+        requires { d < 4096 }
+        ensures is_new { result ≡ not (member_in 64 d self.old) }
+        ensures with_it { self.new ≡ with_in 64 self.old d }
+    {
+        let is_new = !self.has(d);
+        self.words[d / 64] = super::insert(self.words[d / 64], d % 64);
+        is_new
+    }
+
+    #[tactic(auto, unfolding(crate::specs::Pages::without_in))]
+    pub fn remove(&mut self, d: usize)
+        requires { d < 4096 }
+        ensures { self.new ≡ without_in 64 self.old d }
+    {
+        self.words[d / 64] = super::remove(self.words[d / 64], d % 64);
+    }
 }

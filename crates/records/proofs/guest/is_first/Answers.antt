@@ -2,7 +2,7 @@
 -- nothing.
 -- Assumes nothing.
 use Prim.Native.Nat.{◌-◌, ◌<◌}
-use mathlib.Core.Path.{◌≡◌, sym, ap, ◌∙◌}
+use mathlib.Core.Path.{◌≡◌, sym, ◌∙◌}
 use mathlib.Core.Bool.{true, not}
 use native.Mathlib.Omega.{arith}
 use Rattle.sets.specs.Pages.{member_in}
@@ -27,18 +27,15 @@ mine slot first count p claims d e own o =
     let w = claimed_in slot first count p (sym e ∙ own) in
     (sym e ∙ own, o ∙ offset_is p.guest first w.0, w.1)
 
-pub has-old-requires : goal.has-old-requires
-has-old-requires c = let m = mine c.args.slot c.args.first c.args.count c.args.p c.claims_in.result c.offset-d.result c.claims_in.ensures c.if-not-claims_in.false c.offset-d.ensures in omega (arith, m.1, m.2)
-
 pub insert-requires : goal.insert-requires
-insert-requires c = let m = mine c.args.slot c.args.first c.args.count c.args.p c.claims_in.result c.offset-d.result c.claims_in.ensures c.if-not-claims_in.false c.offset-d.ensures in omega (arith, m.1, m.2)
+insert-requires c = let m = mine c.args.slot c.args.first c.args.count c.args.p c.claims_in.result c.offset.result c.claims_in.ensures c.if-not-claims_in.false c.offset.ensures in omega (arith, m.1, m.2)
 
 pub returns : goal.returns
 unfolding is_new noted
 returns c =
     let x = c.args in
-    let m = mine x.slot x.first x.count x.p c.claims_in.result c.offset-d.result c.claims_in.ensures c.if-not-claims_in.false c.offset-d.ensures in
+    let m = mine x.slot x.first x.count x.p c.claims_in.result c.offset.result c.claims_in.ensures c.if-not-claims_in.false c.offset.ensures in
     let d = guest_page x.p - x.first in
-    let old = rw m.1 at c.has-old.ensures in
-    let put = rw m.1 at c.insert.ensures in
-    (rw m.0 (ap not old), rw m.0 (by_test (member_in 64 d x.seen.now) (λ e. rw e (put ∙ with_again 64 d x.seen.now e)) (λ e. rw e put)))
+    let is_new = rw m.1 at c.insert.ensures.is_new in
+    let put = rw m.1 at c.insert.ensures.with_it in
+    (rw m.0 is_new, rw m.0 (by_test (member_in 64 d x.seen.now) (λ e. rw e (put ∙ with_again 64 d x.seen.now e)) (λ e. rw e put)))

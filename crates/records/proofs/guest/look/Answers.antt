@@ -10,7 +10,7 @@ use Rattle.records.proofs.guest.look.Goals as goal
 use Rattle.records.proofs.guest.look.Goals.{then-is_first+else-p-kind+else-missing-eq0, else-is_first}
 
 pub loop-i-init : goal.loop-i-init
-loop-i-init c = looked_none _ _ _ _ _ _ _
+loop-i-init c = rw c.new-seen.ensures (looked_none _ _ _ _ _ _ _)
 
 pub returns-then-p-kind : goal.returns-then-p-kind
 returns-then-p-kind c =

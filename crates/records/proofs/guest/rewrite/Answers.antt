@@ -19,7 +19,8 @@ use Rattle.records.proofs.guest.rewrite.Goals as goal
 use Rattle.records.proofs.guest.rewrite.Goals.{then-is_first+else-left-eq0, else-is_first}
 
 pub loop-i-init : goal.loop-i-init
-loop-i-init c = (search rules, refl, pass_none _ _ _, seen_none _ _ _ _, omega (arith, tally_none c.args.count))
+loop-i-init c =
+    (search rules, refl, pass_none _ _ _, rw c.new-seen.ensures (seen_none _ _ _ _), rw c.new-seen.ensures (omega (arith, tally_none c.args.count)))
 
 -- what a turn knows once the record was asked
 turn : (T : Table) (n slot first count i : ℕ) (seen seen' : List ℕ) (left : ℕ) (p : Page) (r : Bool)
