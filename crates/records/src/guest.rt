@@ -81,8 +81,7 @@ pub fn look(
     let mut missing = count;
     let mut undone = false;
     let mut cut = false;
-    let mut i = 0;
-    while i < n {
+    for i in 0..n {
         let p = read(t, i);
         if is_first(&mut seen, p, slot, first, count) {
             if p.kind != kind {
@@ -95,7 +94,6 @@ pub fn look(
                 return Guests::Ready { undone, cut };
             }
         }
-        i += 1;
     }
     // A range of pages has returned by now where all were there.
     if missing == 0 {
@@ -138,8 +136,7 @@ pub fn rewrite(t: &mut [u8], n: usize, slot: u8, first: u32, count: u32, kind: u
 {
     let mut seen = [0u64; 64];
     let mut left = count;
-    let mut i = 0;
-    while i < n {
+    for i in 0..n {
         let p = read(t, i);
         if is_first(&mut seen, p, slot, first, count) {
             write(t, i, moved(p, slot, kind, version));
@@ -148,6 +145,5 @@ pub fn rewrite(t: &mut [u8], n: usize, slot: u8, first: u32, count: u32, kind: u
                 return;
             }
         }
-        i += 1;
     }
 }

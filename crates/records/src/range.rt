@@ -44,14 +44,12 @@ pub fn look(t: &[u8], first: usize, count: usize, host: bool, fence: GlobalTrack
     ensures { result ≡ range_look (pages_of t.now) first count host (global_of fence) }
 {
     let mut waits = false;
-    let mut i = 0;
-    while i < count {
+    for i in 0..count {
         let p = read(t, first + i);
         if !is_wanted(host, p.kind) {
             return Found::Unwanted;
         }
         waits = waits | is_unfinished(p, fence);
-        i += 1;
     }
     Found::Wanted { unfinished: waits }
 }
@@ -73,10 +71,8 @@ pub fn fill(part: &mut [u8], count: u32, p: Page, step: u32)
     requires { (8 * count ≤ length part.old) × (p.guest + step * count < 2 ^ 32) }
     ensures { pages_of part.new ≡ over (pages_of part.old) (λ i. ltb i count) (stepped p step) }
 {
-    let mut i: u32 = 0;
-    while i < count {
+    for i in 0..count {
         write(part, i as usize, page_of(p, step, i));
-        i += 1;
     }
 }
 

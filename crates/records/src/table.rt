@@ -37,12 +37,10 @@ pub fn any_claimed(t: &[u8], n: usize, slot: u8, first: u32, count: u32) -> bool
     requires { (8 * n ≤ length t.now) × (first + count ≤ 1048576) }
     ensures { result ≡ any (λ d. ltb (meant (pages_of t.now) n slot (first + d)) n) count }
 {
-    let mut i = 0;
-    while i < n {
+    for i in 0..n {
         if claims_in(read(t, i), slot, first, count) {
             return true;
         }
-        i += 1;
     }
     false
 }
@@ -60,8 +58,7 @@ pub fn take_back(t: &mut [u8], n: usize, slot: u8)
     requires { length t.old ≡ 8 * n }
     ensures { pages_of t.new ≡ over (pages_of t.old) (λ i. is_given ((pages_of t.old).page i) && eqb ((pages_of t.old).page i).slot slot) (λ i. page 2 0 0 0) }
 {
-    let mut i = 0;
-    while i < n {
+    for i in 0..n {
         if is_given(read(t, i), slot) {
             write(
                 t,
@@ -74,6 +71,5 @@ pub fn take_back(t: &mut [u8], n: usize, slot: u8)
                 },
             );
         }
-        i += 1;
     }
 }

@@ -13,6 +13,3 @@ invariant-loop-i l =
     (l.i ≤ l.n) × (length l.t ≡ length l.initial.t)
     × (pages_of l.t ≡ up_to (pages_of l.initial.t) (is_meant (pages_of l.initial.t) l.n l.slot l.first l.count) (λ j. becomes l.kind l.slot l.version ((pages_of l.initial.t).page j)) l.i)
     × Seen (pages_of l.initial.t) l.slot l.first l.count l.i l.seen × (l.left + tally l.count l.seen ≡ l.count)
-
-abbrev pub decreases-loop-i : goal.decreases-loop-i
-decreases-loop-i l = l.n - l.i

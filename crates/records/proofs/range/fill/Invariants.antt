@@ -9,6 +9,3 @@ use Rattle.records.proofs.range.fill.Given as goal
 
 abbrev pub invariant-loop-i : goal.invariant-loop-i
 invariant-loop-i l = (l.i ≤ l.count) × (length l.part ≡ length l.initial.part) × (pages_of l.part ≡ up_to (pages_of l.initial.part) (λ j. true) (stepped l.p l.step) l.i)
-
-abbrev pub decreases-loop-i : goal.decreases-loop-i
-decreases-loop-i l = l.count - l.i

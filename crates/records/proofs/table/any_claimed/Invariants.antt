@@ -8,6 +8,3 @@ use Rattle.records.proofs.table.any_claimed.Given as goal
 
 abbrev pub invariant-loop-i : goal.invariant-loop-i
 invariant-loop-i l = (l.i ≤ l.n) × (any (λ j. claims_in l.slot l.first l.count ((pages_of l.t).page j)) l.i ≡ false)
-
-abbrev pub decreases-loop-i : goal.decreases-loop-i
-decreases-loop-i l = l.n - l.i

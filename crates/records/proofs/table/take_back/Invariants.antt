@@ -15,6 +15,3 @@ given slot p = is_given p && eqb p.slot slot
 
 abbrev pub invariant-loop-i : goal.invariant-loop-i
 invariant-loop-i l = (l.i ≤ l.n) × (length l.t ≡ length l.initial.t) × (pages_of l.t ≡ up_to (pages_of l.initial.t) (λ j. given l.slot ((pages_of l.initial.t).page j)) (λ j. page 2 0 0 0) l.i)
-
-abbrev pub decreases-loop-i : goal.decreases-loop-i
-decreases-loop-i l = l.n - l.i
