@@ -1,4 +1,3 @@
-use Prim.Native.Nat.{◌-◌}
 use Rattle.rules.specs.Encoding.{pages_of}
 use Rattle.fences.specs.Trackers.{tvm_of}
 use Rattle.records.proofs.GuestLook.{Looked}
