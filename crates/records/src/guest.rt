@@ -12,12 +12,11 @@ use super::table::{claims_in, offset};
 use fences::{TvmTracker, TvmVersion, tvm_done};
 use rules::Page;
 
-// What a look over a guest range finds: a page that is not mapped or not as wanted; or all there, with a version that is not done, or a large
-// mapping that is cut.
+// A look found a guest range whose pages are all mapped and of the kind wanted; the version of some may not be done, some large mapping may be cut.
 #[derive(Clone, Copy)]
-pub enum Guests {
-    Unready,
-    Ready { undone: bool, cut: bool },
+pub struct AllMapped {
+    pub undone: bool,
+    pub cut: bool,
 }
 
 // The record is the first to claim one of the guest pages; that one is seen from now on.
@@ -65,6 +64,7 @@ fn with_cut(cut: bool, p: Page, first: u32, count: u32) -> bool
     if is_cut(p, first, count) { true } else { cut }
 }
 
+// None where a guest page is not mapped or of another kind.
 pub fn look(
     t: &[u8],
     n: usize,
@@ -73,7 +73,7 @@ pub fn look(
     count: u32,
     kind: u8,
     fence: TvmTracker,
-) -> Guests
+) -> Option<AllMapped>
     requires { (8 * n ≤ length t.now) × (first + count ≤ 1048576) × (count ≤ 4096) }
     ensures { result ≡ guest_look (pages_of t.now) n slot first count kind (tvm_of fence) }
 {
@@ -85,21 +85,21 @@ pub fn look(
         let p = read(t, i);
         if is_first(&mut seen, p, slot, first, count) {
             if p.kind != kind {
-                return Guests::Unready;
+                return None;
             }
             undone = with_undone(undone, fence, p.version);
             cut = with_cut(cut, p, first, count);
             missing -= 1;
             if missing == 0 {
-                return Guests::Ready { undone, cut };
+                return Some(AllMapped { undone, cut });
             }
         }
     }
     // A range of pages has returned by now where all were there.
     if missing == 0 {
-        Guests::Ready { undone, cut }
+        Some(AllMapped { undone, cut })
     } else {
-        Guests::Unready
+        None
     }
 }
 

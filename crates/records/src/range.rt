@@ -10,11 +10,10 @@ use super::record::{read, write};
 use fences::{GlobalTracker, GlobalVersion, global_done};
 use rules::Page;
 
-// What a look over a range finds: a page of another kind, or only wanted ones, of which some may be in a conversion that is not done.
+// A look found a range whose pages are all wanted; some may be in a conversion that is not done.
 #[derive(Clone, Copy)]
-pub enum Found {
-    Unwanted,
-    Wanted { unfinished: bool },
+pub struct AllWanted {
+    pub unfinished: bool,
 }
 
 // An ordinary page where the host's are wanted, else a free one.
@@ -39,7 +38,14 @@ fn is_unfinished(p: Page, fence: GlobalTracker) -> bool
     }
 }
 
-pub fn look(t: &[u8], first: usize, count: usize, host: bool, fence: GlobalTracker) -> Found
+// None where a page of the range is of another kind.
+pub fn look(
+    t: &[u8],
+    first: usize,
+    count: usize,
+    host: bool,
+    fence: GlobalTracker,
+) -> Option<AllWanted>
     requires { 8 * (first + count) ≤ length t.now }
     ensures { result ≡ range_look (pages_of t.now) first count host (global_of fence) }
 {
@@ -47,11 +53,11 @@ pub fn look(t: &[u8], first: usize, count: usize, host: bool, fence: GlobalTrack
     for i in 0..count {
         let p = read(t, first + i);
         if !is_wanted(host, p.kind) {
-            return Found::Unwanted;
+            return None;
         }
         waits = waits | is_unfinished(p, fence);
     }
-    Found::Wanted { unfinished: waits }
+    Some(AllWanted { unfinished: waits })
 }
 
 fn page_of(p: Page, step: u32, i: u32) -> Page
