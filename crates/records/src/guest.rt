@@ -7,10 +7,11 @@ ghost use Rattle.rules.specs.Fence.{done};
 ghost use Rattle.fences.specs.Trackers.{tvm_of};
 ghost use Rattle.records.specs.Passes.{is_new, noted, guest_look, becomes, large_bit};
 
-use super::record::{read, write};
+use super::record::{FREE, read, write};
 use super::table::{claims_in, offset};
 use fences::{TvmTracker, TvmVersion, tvm_done};
 use rules::Page;
+use rules::numbers::Kind;
 
 // A look found a guest range whose pages are all mapped and of the kind wanted; the version of some may not be done, some large mapping may be cut.
 #[derive(Clone, Copy)]
@@ -113,13 +114,8 @@ fn large_bit(guest: u32) -> u32
 fn moved(p: Page, slot: u8, kind: u8, version: u16) -> Page
     ensures { result ≡ becomes kind slot version p }
 {
-    if kind == 2 {
-        return Page {
-            kind: 2,
-            slot: 0,
-            version: 0,
-            guest: 0,
-        };
+    if kind == Kind::Free as u8 {
+        return FREE;
     }
     let guest = p.guest;
     Page {

@@ -9,6 +9,7 @@ ghost use Rattle.records.specs.Passes.{wanted, unfinished, range_look, stepped};
 use super::record::{read, write};
 use fences::{GlobalTracker, GlobalVersion, global_done};
 use rules::Page;
+use rules::numbers::Kind;
 
 // A look found a range whose pages are all wanted; some may be in a conversion that is not done.
 #[derive(Clone, Copy)]
@@ -21,9 +22,9 @@ fn is_wanted(host: bool, kind: u8) -> bool
     ensures { result ≡ wanted host kind }
 {
     if host {
-        kind == 0
+        kind == Kind::Ordinary as u8
     } else {
-        (kind == 1) | (kind == 2)
+        (kind == Kind::Converting as u8) | (kind == Kind::Free as u8)
     }
 }
 
@@ -31,7 +32,7 @@ fn is_unfinished(p: Page, fence: GlobalTracker) -> bool
     ensures { result ≡ unfinished (global_of fence) p }
 {
     let kind = p.kind;
-    if kind == 1 {
+    if kind == Kind::Converting as u8 {
         !global_done(fence, GlobalVersion(p.version))
     } else {
         false

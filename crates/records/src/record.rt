@@ -4,6 +4,15 @@ ghost use Rattle.rules.specs.Encoding.{pages_of};
 ghost use Rattle.records.specs.Passes.{put_page};
 
 use rules::Page;
+use rules::numbers::Kind;
+
+// A free page's record. "Fields that a kind does not use are 0 when written."
+pub const FREE: Page = Page {
+    kind: Kind::Free as u8,
+    slot: 0,
+    version: 0,
+    guest: 0,
+};
 
 fn pair(lo: u8, hi: u8) -> u16
     ensures { result ≡ lo + 256 * hi }
