@@ -14,18 +14,6 @@ pub const FREE: Page = Page {
     guest: 0,
 };
 
-fn pair(lo: u8, hi: u8) -> u16
-    ensures { result ≡ lo + 256 * hi }
-{
-    lo as u16 + 256 * (hi as u16)
-}
-
-fn four(b0: u8, b1: u8, b2: u8, b3: u8) -> u32
-    ensures { result ≡ b0 + 256 * b1 + 65536 * b2 + 16777216 * b3 }
-{
-    b0 as u32 + 256 * (b1 as u32) + 65536 * (b2 as u32) + 16777216 * (b3 as u32)
-}
-
 pub fn read(t: &[u8], i: usize) -> Page
     requires { 8 * i + 8 ≤ length t.now }
     ensures { result ≡ (pages_of t.now).page i }
@@ -34,8 +22,8 @@ pub fn read(t: &[u8], i: usize) -> Page
     Page {
         kind: t[a],
         slot: t[a + 1],
-        version: pair(t[a + 2], t[a + 3]),
-        guest: four(t[a + 4], t[a + 5], t[a + 6], t[a + 7]),
+        version: u16::from_le_bytes([t[a + 2], t[a + 3]]),
+        guest: u32::from_le_bytes([t[a + 4], t[a + 5], t[a + 6], t[a + 7]]),
     }
 }
 
