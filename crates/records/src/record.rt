@@ -34,10 +34,6 @@ pub fn write(t: &mut [u8], i: usize, p: Page)
     let a = 8 * i;
     t[a] = p.kind;
     t[a + 1] = p.slot;
-    t[a + 2] = (p.version % 256) as u8;
-    t[a + 3] = (p.version / 256) as u8;
-    t[a + 4] = (p.guest % 256) as u8;
-    t[a + 5] = (p.guest / 256 % 256) as u8;
-    t[a + 6] = (p.guest / 65536 % 256) as u8;
-    t[a + 7] = (p.guest / 16777216) as u8;
+    t[a + 2..a + 4].copy_from_slice(&p.version.to_le_bytes());
+    t[a + 4..a + 8].copy_from_slice(&p.guest.to_le_bytes());
 }
