@@ -4,6 +4,7 @@ use Prim.Native.Nat.{ℕ, ◌+◌}
 use mathlib.Core.Path.{◌≡◌, refl, sym, ◌∙◌, ap}
 use mathlib.Core.Bool.{Bool, true, false, cond, not, ◌&&◌, ◌||◌, true≢false}
 use lib.Dec.{eqb}
+use Rattle.std.specs.Prelude.{Option, None, Some, MatchOption, is_none}
 use Rattle.sets.specs.Terms.{one_of, one_from, row}
 use Rattle.sets.specs.Look.{any}
 use Rattle.sets.proofs.Bools.{or_left, or_right}
@@ -16,12 +17,35 @@ use Rattle.rules.specs.Calls.{moves, names, arg, size, first_guest, index}
 use Rattle.rules.specs.Refusals.{the_slot, the_one, mapped, any_page, any_guest, refuses6, refuses7, refuses14}
 use Rattle.rules.proofs.Spans.{host_spans_lem, free_spans_lem}
 use Rattle.records.specs.Passes.{wanted, unfinished, range_look, guest_look}
-use Rattle.records.specs.declared.range.Found.{Found}
-use Rattle.records.specs.declared.range.Found.TheVariants.{Unwanted, Wanted}
-use Rattle.records.specs.declared.guest.Guests.{Guests}
-use Rattle.records.specs.declared.guest.Guests.TheVariants.{Unready, Ready}
+use Rattle.records.specs.declared.range.AllWanted.{AllWanted}
+use Rattle.records.specs.declared.guest.AllMapped.{AllMapped}
 use Rattle.looks.specs.declared.sight.Sight.{Sight}
 use Rattle.looks.specs.Sights.{Seen, is_unwanted, is_unfinished, is_unready, is_undone, has_cut, look_at, guests_at}
+
+-- ---- a look that is made where something is named, and answers none where something is amiss
+none-is : {A : Type 0} (named amiss : Bool) (found unasked : A) → is_none (cond named (cond amiss None (Some found)) (Some unasked)) ≡ (named && amiss)
+none-is true true found unasked = refl
+none-is true false found unasked = refl
+none-is false amiss found unasked = refl
+
+-- what it says where it is not none, of something that holds of nothing that is not asked
+said : {A : Type 0} (says : Option A → Bool) (named amiss : Bool) (found unasked : A) → says (Some unasked) ≡ false
+    → is_none (cond named (cond amiss None (Some found)) (Some unasked)) ≡ false
+    → says (cond named (cond amiss None (Some found)) (Some unasked)) ≡ (named && says (Some found))
+said says true true found unasked n e = absurd (true≢false e)
+said says true false found unasked n e = refl
+said says false amiss found unasked n e = n
+
+-- what `is_none` answers
+pub of_none : (r some : Bool) → some ≡ not r → r ≡ not some
+of_none true some e = rw e
+of_none false some e = rw e
+
+-- what a test of the value answers, and false of none
+pub of_some : {A : Type 0} (says : Option A → Bool) (o : Option A) (r : Bool) (P : A → Type 0) → says None ≡ false → MatchOption o (r ≡ false) P
+    → ((x : A) → P x → r ≡ says (Some x)) → r ≡ says o
+of_some says None r P n h test = h ∙ sym n
+of_some says (Some x) r P n h test = test x h
 
 -- ---- pages
 module _ (t : Table) (named : Bool) (base pages : ℕ) (host : Bool) (f : Tracker) where
@@ -33,21 +57,11 @@ module _ (t : Table) (named : Bool) (base pages : ℕ) (host : Bool) (f : Tracke
 
   unwanted_is : is_unwanted (look_at t named base pages host f) ≡ (named && amiss)
   unfolding range_look
-  unwanted_is = go named amiss
-    where
-      go : (n a : Bool) → is_unwanted (cond n (cond a Unwanted (Wanted waiting)) (Wanted false)) ≡ (n && a)
-      go true true = refl
-      go true false = refl
-      go false a = refl
+  unwanted_is = none-is named amiss _ _
 
   unfinished-is : is_unwanted (look_at t named base pages host f) ≡ false → is_unfinished (look_at t named base pages host f) ≡ (named && waiting)
   unfolding range_look
-  unfinished-is = go named amiss
-    where
-      go : (n a : Bool) → is_unwanted (cond n (cond a Unwanted (Wanted waiting)) (Wanted false)) ≡ false → is_unfinished (cond n (cond a Unwanted (Wanted waiting)) (Wanted false)) ≡ (n && waiting)
-      go true true e = absurd (true≢false e)
-      go true false e = refl
-      go false a e = refl
+  unfinished-is = said is_unfinished named amiss _ _ refl
 
 -- ---- guest pages, and the whole
 module _ (l : Ledger) (t : Table) (c : Call) where
@@ -62,30 +76,15 @@ module _ (l : Ledger) (t : Table) (c : Call) where
 
   unready_is : is_unready (guests_at l t c) ≡ (moves c && unready)
   unfolding guest_look
-  unready_is = go (moves c) unready
-    where
-      go : (m a : Bool) → is_unready (cond m (cond a Unready (Ready undone cut)) (Ready false false)) ≡ (m && a)
-      go true true = refl
-      go true false = refl
-      go false a = refl
+  unready_is = none-is (moves c) unready _ _
 
   undone_is : is_unready (guests_at l t c) ≡ false → is_undone (guests_at l t c) ≡ (moves c && undone)
   unfolding guest_look
-  undone_is = go (moves c) unready
-    where
-      go : (m a : Bool) → is_unready (cond m (cond a Unready (Ready undone cut)) (Ready false false)) ≡ false → is_undone (cond m (cond a Unready (Ready undone cut)) (Ready false false)) ≡ (m && undone)
-      go true true e = absurd (true≢false e)
-      go true false e = refl
-      go false a e = refl
+  undone_is = said is_undone (moves c) unready _ _ refl
 
   cut_is : is_unready (guests_at l t c) ≡ false → has_cut (guests_at l t c) ≡ (moves c && cut)
   unfolding guest_look
-  cut_is = go (moves c) unready
-    where
-      go : (m a : Bool) → is_unready (cond m (cond a Unready (Ready undone cut)) (Ready false false)) ≡ false → has_cut (cond m (cond a Unready (Ready undone cut)) (Ready false false)) ≡ (m && cut)
-      go true true e = absurd (true≢false e)
-      go true false e = refl
-      go false a e = refl
+  cut_is = said has_cut (moves c) unready _ _ refl
 
   -- 18 and 19 are among 17 to 19
   among : (a b d x : Bool) → ((b || d) && ((a || b || d) && x)) ≡ ((b || d) && x)
@@ -95,16 +94,16 @@ module _ (l : Ledger) (t : Table) (c : Call) where
   among true false true x = refl
   among false false true x = refl
 
-  abbrev host_look : Found
+  abbrev host_look : Option AllWanted
   host_look = look_at t (names HostBase c) (arg HostBase c) (size c) true l.global
 
-  abbrev directory_look : Found
+  abbrev directory_look : Option AllWanted
   directory_look = look_at t (names DirectoryBase c) (arg DirectoryBase c) 4 false l.global
 
-  abbrev free_look : Found
+  abbrev free_look : Option AllWanted
   free_look = look_at t (names FreeBase c) (arg FreeBase c) (size c) false l.global
 
-  abbrev sight_of : Found → Found → Found → Guests → Sight
+  abbrev sight_of : Option AllWanted → Option AllWanted → Option AllWanted → Option AllMapped → Sight
   sight_of h d f g = record {
     refuses6 = is_unwanted h || (is_unwanted d || is_unwanted f) || is_unready g;
     refuses7 = (is_unfinished d || is_unfinished f) || (eqb c.number 18 || eqb c.number 19) && is_undone g;

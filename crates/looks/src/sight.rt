@@ -5,14 +5,14 @@ ghost use Rattle.rules.specs.Calls.{memory, index};
 ghost use Rattle.rules.specs.Encoding.{view, pages_of};
 ghost use Rattle.fences.specs.Trackers.{global_of};
 ghost use Rattle.door.specs.Ready.{Ready};
-ghost use Rattle.looks.specs.Sights.{Seen, is_unwanted, is_unfinished, is_unready, is_undone, has_cut, InTable, look_at, guests_at};
+ghost use Rattle.looks.specs.Sights.{Seen, InTable, look_at, guests_at};
 
 use door::early::names;
 use door::places::{MEMORY, names_place};
 use door::roles::{DIRECTORY, FREE, GUEST, HOST, TVM};
 use fences::GlobalTracker;
-use records::guest::Guests;
-use records::range::Found;
+use records::guest::AllMapped;
+use records::range::AllWanted;
 use records::{guest, range};
 use rules::Call;
 use words::{Words, parts, sizes};
@@ -25,51 +25,6 @@ pub struct Sight {
     pub refuses14: bool,
 }
 
-fn is_unwanted(f: Found) -> bool
-    ensures { result ≡ is_unwanted f }
-{
-    match f {
-        Found::Unwanted => true,
-        Found::Wanted { unfinished: _ } => false,
-    }
-}
-
-fn is_unfinished(f: Found) -> bool
-    ensures { result ≡ is_unfinished f }
-{
-    match f {
-        Found::Unwanted => false,
-        Found::Wanted { unfinished } => unfinished,
-    }
-}
-
-fn is_unready(g: Guests) -> bool
-    ensures { result ≡ is_unready g }
-{
-    match g {
-        Guests::Unready => true,
-        Guests::Ready { undone: _, cut: _ } => false,
-    }
-}
-
-fn is_undone(g: Guests) -> bool
-    ensures { result ≡ is_undone g }
-{
-    match g {
-        Guests::Unready => false,
-        Guests::Ready { undone, cut: _ } => undone,
-    }
-}
-
-fn has_cut(g: Guests) -> bool
-    ensures { result ≡ has_cut g }
-{
-    match g {
-        Guests::Unready => false,
-        Guests::Ready { undone: _, cut } => cut,
-    }
-}
-
 // The page of an address in memory.
 pub fn index_of(base: u64) -> usize
     requires { memory ≤ base }
@@ -78,14 +33,21 @@ pub fn index_of(base: u64) -> usize
     ((base - MEMORY) / 4096) as usize
 }
 
-fn look_at(t: &[u8], named: bool, base: u64, pages: u64, host: bool, fence: GlobalTracker) -> Found
+fn look_at(
+    t: &[u8],
+    named: bool,
+    base: u64,
+    pages: u64,
+    host: bool,
+    fence: GlobalTracker,
+) -> Option<AllWanted>
     requires { InTable named base pages t.now }
     ensures { result ≡ look_at (pages_of t.now) named base pages host (global_of fence) }
 {
     if named {
         return range::look(t, index_of(base), pages as usize, host, fence);
     }
-    Found::Wanted { unfinished: false }
+    Some(AllWanted { unfinished: false })
 }
 
 pub fn is_move(number: u64) -> bool
@@ -101,7 +63,7 @@ fn kind_for(number: u64) -> u8
     if number == 17 { 7 } else { 8 }
 }
 
-fn guests_at(l: &Words, t: &[u8], q: Call, a: &[u64; 12], pages: u64) -> Guests
+fn guests_at(l: &Words, t: &[u8], q: Call, a: &[u64; 12], pages: u64) -> Option<AllMapped>
     requires { Ready l.now t.now q a.now pages }
     ensures { result ≡ guests_at (view l.now) (pages_of t.now) q }
 {
@@ -121,10 +83,10 @@ fn guests_at(l: &Words, t: &[u8], q: Call, a: &[u64; 12], pages: u64) -> Guests
             fence,
         );
     }
-    Guests::Ready {
+    Some(AllMapped {
         undone: false,
         cut: false,
-    }
+    })
 }
 
 fn look_at_all(l: &Words, t: &[u8], q: Call, a: &[u64; 12], pages: u64) -> Sight
@@ -137,12 +99,10 @@ fn look_at_all(l: &Words, t: &[u8], q: Call, a: &[u64; 12], pages: u64) -> Sight
     let directory = look_at(t, names(a, DIRECTORY), a[DIRECTORY], 4, false, fence);
     let free = look_at(t, names(a, FREE), a[FREE], pages, false, fence);
     let guests = guests_at(l, t, q, a, pages);
-    let refuses6 = is_unwanted(host)
-        | (is_unwanted(directory) | is_unwanted(free))
-        | is_unready(guests);
-    let refuses7 = (is_unfinished(directory) | is_unfinished(free))
-        | (((number == 18) | (number == 19)) & is_undone(guests));
-    let refuses14 = has_cut(guests);
+    let refuses6 = host.is_none() | (directory.is_none() | free.is_none()) | guests.is_none();
+    let refuses7 = (directory.is_some_and(|w| w.unfinished) | free.is_some_and(|w| w.unfinished))
+        | (((number == 18) | (number == 19)) & guests.is_some_and(|m| m.undone));
+    let refuses14 = guests.is_some_and(|m| m.cut);
     Sight {
         refuses6,
         refuses7,

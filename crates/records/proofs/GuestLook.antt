@@ -15,7 +15,7 @@ use Rattle.sets.proofs.Looks.{any_next, any_one, any_hit, any_ext, not-all, coun
 use Rattle.rules.specs.declared.Page.{Page}
 use Rattle.rules.specs.Page.{Table, claims, guest_page, meant, is_meant, is_cut}
 use Rattle.rules.specs.Fence.{Tracker, done}
-use Rattle.records.specs.declared.guest.Guests.TheVariants.{Unready, Ready}
+use Rattle.std.specs.Prelude.{Some, None}
 use Rattle.records.specs.Passes.{is_new, noted, guest_look}
 use Rattle.records.proofs.Meant.{Seen, claimed, seen_none, new_is, seen_next, tally, tally_none, tally_new, tally_old, room, meant_at, all_claimed, none_left, hits, mapped-is}
 
@@ -90,7 +90,7 @@ module _ (t : Table) (n slot first number kind : ℕ) (fence : Tracker) where
         }
 
     -- a record of another kind: the range is not ready
-    looked_bad : is_new slot first number (t.page i) seen ≡ true → eqb (t.page i).kind kind ≡ false → Unready ≡ guest_look t n slot first number kind fence
+    looked_bad : is_new slot first number (t.page i) seen ≡ true → eqb (t.page i).kind kind ≡ false → None ≡ guest_look t n slot first number kind fence
     unfolding guest_look
     looked_bad e k =
         let m = meant_at t n slot first number i (sym is ∙ e) in
@@ -110,12 +110,12 @@ module _ (t : Table) (n slot first number kind : ℕ) (fence : Tracker) where
       pub turn_room : is_new slot first number p seen ≡ true → 0 < missing
       turn_room e = omega (arith, s.missing_is, room t slot first number n i seen few h s.pages (rw read at e))
 
-      pub turn_bad : is_new slot first number p seen ≡ true → (p.kind ≡ kind → ⊥) → Unready ≡ guest_look t n slot first number kind fence
+      pub turn_bad : is_new slot first number p seen ≡ true → (p.kind ≡ kind → ⊥) → None ≡ guest_look t n slot first number kind fence
       turn_bad e k = looked_bad (rw read at e) (ne_eqb (t.page i).kind kind (λ q. k (ap (λ (y : Page). y.kind) read ∙ q)))
 
   -- where none is missing, and where some are at the end of the records
   module _ (i : ℕ) (seen : List ℕ) (missing : ℕ) (undone cut : Bool) (s : Looked i seen missing undone cut) where
-    pub looked_full : missing ≡ 0 → Ready undone cut ≡ guest_look t n slot first number kind fence
+    pub looked_full : missing ≡ 0 → Some (record { undone = undone; cut = cut }) ≡ guest_look t n slot first number kind fence
     unfolding guest_look
     looked_full e =
         let full : tally number seen ≡ number = omega (arith, s.missing_is) in
@@ -128,7 +128,7 @@ module _ (t : Table) (n slot first number kind : ℕ) (fence : Tracker) where
         any_ext _ _ number (λ d l. rw (lt-ltb (meant t n slot (first + d)) n (there d l))) ∙ sym (rest wrong) ∙ s.kinds in
         rw (good, s.undone_is, rest undone_of, s.cut_is, rest (is_cut first number))
 
-    pub looked_short : i ≡ n → (missing ≡ 0 → ⊥) → Unready ≡ guest_look t n slot first number kind fence
+    pub looked_short : i ≡ n → (missing ≡ 0 → ⊥) → None ≡ guest_look t n slot first number kind fence
     unfolding guest_look
     looked_short e k =
         let some : any (λ d. not (member_in 64 d seen)) number ≡ true =

@@ -4,11 +4,11 @@ use Prim.Native.Nat.{ℕ, ◌+◌, ◌*◌, ◌-◌, ◌≤◌, ◌<◌}
 use mathlib.Core.Path.{◌≡◌, sym, ap, ◌∙◌, fun_ext}
 use mathlib.Core.Logic.{◌⊎◌, inl, inr, ⊎_elim}
 use mathlib.Core.Bool.{Bool, true, false, ◌&&◌, cond}
-use mathlib.Core.List.{List, ◌++◌}
+use mathlib.Core.List.{List}
 use native.Mathlib.Omega.{arith}
 use lib.Dec.{leb, ltb, eqb}
-use lib.ListN.{length, get_or, take, drop, length-append, length-take, length-drop, get_or-append}
-use lib.Seq.{length-take-le, get_or-append-add, get_or-take, get_or-drop}
+use borrow.Rule.Slice.PartMut.{mid_of, put_mid}
+use lib.ListN.{length, drop, length-take, length-drop}
 use borrow.Author.Tests.{leb-true, leb-false, ltb-true, ltb-false, lt-ltb, le-ltb, eqb-true, eqb-false}
 use Rattle.sets.specs.Terms.{within}
 use Rattle.sets.proofs.Bools.{by_test}
@@ -17,6 +17,7 @@ use Rattle.rules.specs.Page.{Table, over}
 use Rattle.rules.specs.Encoding.{page_at, pages_of}
 use Rattle.records.specs.Passes.{put_page}
 use Rattle.records.proofs.Bytes.{page_ext}
+use Rattle.records.proofs.Parts.{put_in, put_out, put_length}
 
 abbrev pub up_to : Table → (ℕ → Bool) → (ℕ → Page) → ℕ → Table
 up_to t which new i = over t (λ j. ltb j i && which j) new
@@ -59,7 +60,7 @@ module _ (t : Table) (which : ℕ → Bool) (new : ℕ → Page) where
 
 -- ---- a part of the bytes, n records from record a on, that a callee wrote
 module _ (t ys : List ℕ) (a n : ℕ) (new : ℕ → Page) (h : 8 * (a + n) ≤ length t)
-    (e : pages_of ys ≡ over (pages_of (take (8 * (a + n) - 8 * a) (drop (8 * a) t))) (λ i. ltb i n) new) where
+    (e : pages_of ys ≡ over (pages_of (mid_of (8 * a) (8 * (a + n) - 8 * a) t)) (λ i. ltb i n) new) where
   k : ℕ
   k = 8 * (a + n) - 8 * a
 
@@ -67,60 +68,27 @@ module _ (t ys : List ℕ) (a n : ℕ) (new : ℕ → Page) (h : 8 * (a + n) ≤
   unfolding k
   k_is = omega arith
 
-  long : length ys ≡ 8 * n
-  unfolding pages_of
+  long : length ys ≡ k
+  unfolding pages_of k
   long = ap (λ (x : Table). x.bytes) e ∙ omega (arith, length-take (8 * (a + n) - 8 * a) (drop (8 * a) t), length-drop (8 * a) t)
 
-  front : length (take (8 * a) t) ≡ 8 * a
-  front = length-take-le (8 * a) t (omega arith)
-
-  rest : List ℕ
-  rest = drop k (drop (8 * a) t)
-
   whole : List ℕ
-  whole = take (8 * a) t ++ (ys ++ rest)
-
-  whole_length : length whole ≡ length t
-  unfolding whole rest
-  whole_length =
-      omega (arith, length-append (take (8 * a) t) (ys ++ rest), length-append ys rest, front, long, length-drop k (drop (8 * a) t), length-drop (8 * a) t, k_is)
-
-  at_front : (j : ℕ) → j < 8 * a → get_or whole j 0 ≡ get_or t j 0
-  unfolding whole
-  at_front j l = get_or-append (take (8 * a) t) (ys ++ rest) 0 j (omega (arith, front)) ∙ get_or-take (8 * a) t j 0 l
-
-  at_mid : (j : ℕ) → j < 8 * n → get_or whole (8 * a + j) 0 ≡ get_or ys j 0
-  unfolding whole
-  at_mid j l =
-      ap (λ (x : ℕ). get_or (take (8 * a) t ++ (ys ++ rest)) (x + j) 0) (sym front)
-      ∙ get_or-append-add (take (8 * a) t) (ys ++ rest) j 0
-      ∙ get_or-append ys rest 0 j (omega (arith, long))
-
-  at_rest : (j : ℕ) → 8 * (a + n) ≤ j → get_or whole j 0 ≡ get_or t j 0
-  unfolding whole rest
-  at_rest j l =
-      let d = j - 8 * (a + n) in
-      let q : j ≡ length (take (8 * a) t) + (length ys + d) = omega (arith, front, long) in
-      let q' : 8 * a + (k + d) ≡ j = omega (arith, k_is) in
-      ap (λ (x : ℕ). get_or (take (8 * a) t ++ (ys ++ rest)) x 0) q
-      ∙ get_or-append-add (take (8 * a) t) (ys ++ rest) (length ys + d) 0
-      ∙ get_or-append-add ys rest d 0
-      ∙ get_or-drop k (drop (8 * a) t) d 0
-      ∙ get_or-drop (8 * a) t (k + d) 0
-      ∙ ap (λ (x : ℕ). get_or t x 0) q'
+  whole = put_mid (8 * a) k t ys
 
   page_out : (i : ℕ) → (i < a) ⊎ (a + n ≤ i) → page_at whole (8 * i) ≡ page_at t (8 * i)
-  page_out i o = page_ext whole t (8 * i) (8 * i) (λ x l. ⊎_elim (λ y. at_front (8 * i + x) (omega arith)) (λ y. at_rest (8 * i + x) (omega arith)) o)
+  unfolding whole
+  page_out i o = page_ext whole t (8 * i) (8 * i) (λ x l. put_out (8 * a) k t ys long (omega (arith, k_is)) (8 * i + x) (⊎_elim (λ y. inl (omega arith)) (λ y. inr (omega (arith, k_is))) o))
 
   page_in : (i : ℕ) → a ≤ i → i < a + n → page_at whole (8 * i) ≡ new (i - a)
-  unfolding pages_of
+  unfolding pages_of whole
   page_in i m l =
-      page_ext whole ys (8 * i) (8 * (i - a)) (λ x b. let z : 8 * i + x ≡ 8 * a + (8 * (i - a) + x) = omega arith in rw z (at_mid (8 * (i - a) + x) (omega arith)))
+      page_ext whole ys (8 * i) (8 * (i - a))
+      (λ x b. let z : 8 * i + x ≡ 8 * a + (8 * (i - a) + x) = omega arith in rw z (put_in (8 * a) k t ys long (omega (arith, k_is)) (8 * (i - a) + x) (omega (arith, k_is))))
       ∙ ap (λ (x : Table). x.page (i - a)) e ∙ rw (lt-ltb (i - a) n (omega arith))
 
-  pub part-written : pages_of (take (8 * a) t ++ (ys ++ drop (8 * (a + n) - 8 * a) (drop (8 * a) t))) ≡ over (pages_of t) (within a n) (λ i. new (i - a))
-  unfolding pages_of whole rest k
-  part-written = λ x. record { bytes = whole_length x; page = fun_ext go x }
+  pub part-written : pages_of (put_mid (8 * a) (8 * (a + n) - 8 * a) t ys) ≡ over (pages_of t) (within a n) (λ i. new (i - a))
+  unfolding pages_of whole k
+  part-written = λ x. record { bytes = put_length (8 * a) k t ys long (omega (arith, k_is)) x; page = fun_ext go x }
     where
       go : (i : ℕ) → page_at whole (8 * i) ≡ cond (leb a i && ltb i (a + n)) (new (i - a)) (page_at t (8 * i))
       go i = by_test (leb a i)

@@ -1,15 +1,13 @@
 -- What the passes over records find and write, in the words of document 01's definitions.
-use Rattle.std.specs.Prelude.{ℕ, ◌+◌, ◌-◌, ◌*◌, ◌%◌, Bool, cond, not, ◌&&◌, ◌||◌, List, ltb, leb, eqb}
+use Rattle.std.specs.Prelude.{ℕ, ◌+◌, ◌-◌, ◌*◌, ◌%◌, Bool, cond, not, ◌&&◌, ◌||◌, List, ltb, leb, eqb, Option, None, Some}
 use Rattle.sets.specs.Terms.{within, put}
 use Rattle.sets.specs.Look.{any}
 use Rattle.sets.specs.Pages.{member_in, with_in}
 use Rattle.rules.specs.declared.Page.{Page}
 use Rattle.rules.specs.Page.{Table, page, is_mapped, guest_page, is_cut, meant, moved}
 use Rattle.rules.specs.Fence.{Tracker, done}
-use Rattle.records.specs.declared.range.Found.{Found}
-use Rattle.records.specs.declared.range.Found.TheVariants.{Unwanted, Wanted}
-use Rattle.records.specs.declared.guest.Guests.{Guests}
-use Rattle.records.specs.declared.guest.Guests.TheVariants.{Unready, Ready}
+use Rattle.records.specs.declared.range.AllWanted.{AllWanted}
+use Rattle.records.specs.declared.guest.AllMapped.{AllMapped}
 
 -- the table with one record put
 abbrev pub put_page : ℕ → Page → Table → Table
@@ -24,9 +22,11 @@ wanted host kind = cond host (eqb kind 0) (eqb kind 1 || eqb kind 2)
 abbrev pub unfinished : Tracker → Page → Bool
 unfinished fence p = eqb p.kind 1 && not (done fence p.version)
 
-unfoldable pub range_look : Table → ℕ → ℕ → Bool → Tracker → Found
+-- none where a page is not wanted; else whether some is unfinished
+unfoldable pub range_look : Table → ℕ → ℕ → Bool → Tracker → Option AllWanted
 range_look t first count host fence =
-    cond (any (λ i. not (wanted host (t.page (first + i)).kind)) count) Unwanted (Wanted (any (λ i. unfinished fence (t.page (first + i))) count))
+    cond (any (λ i. not (wanted host (t.page (first + i)).kind)) count) None
+    (Some (record { unfinished = any (λ i. unfinished fence (t.page (first + i))) count }))
 
 -- p with a guest word that is `step` more from each record to the next
 abbrev pub stepped : Page → ℕ → ℕ → Page
@@ -48,11 +48,14 @@ is_new slot first count p seen = claims_in slot first count p && not (member_in 
 unfoldable pub noted : ℕ → ℕ → ℕ → Page → List ℕ → List ℕ
 noted slot first count p seen = cond (is_new slot first count p seen) (with_in 64 seen (guest_page p - first)) seen
 
--- some guest page is not mapped, or its record is not of the kind; else whether some is not done, and whether some large mapping is cut
-unfoldable pub guest_look : Table → ℕ → ℕ → ℕ → ℕ → ℕ → Tracker → Guests
+-- none where some guest page is not mapped, or its record is not of the kind; else whether some is not done, and whether some large mapping is cut
+unfoldable pub guest_look : Table → ℕ → ℕ → ℕ → ℕ → ℕ → Tracker → Option AllMapped
 guest_look t n slot first count kind fence =
-    cond (any (λ d. not (ltb (meant t n slot (first + d)) n && eqb (t.page (meant t n slot (first + d))).kind kind)) count) Unready
-    (Ready (any (λ d. not (done fence (t.page (meant t n slot (first + d))).version)) count) (any (λ d. is_cut first count (t.page (meant t n slot (first + d)))) count))
+    cond (any (λ d. not (ltb (meant t n slot (first + d)) n && eqb (t.page (meant t n slot (first + d))).kind kind)) count) None
+    (Some (record {
+      undone = any (λ d. not (done fence (t.page (meant t n slot (first + d))).version)) count;
+      cut = any (λ d. is_cut first count (t.page (meant t n slot (first + d)))) count;
+    }))
 
 abbrev pub large_bit : ℕ → ℕ
 large_bit guest = cond (leb 2147483648 guest) 2147483648 0

@@ -7,18 +7,18 @@ ghost use Rattle.rules.specs.Fence.{done};
 ghost use Rattle.fences.specs.Trackers.{tvm_of};
 ghost use Rattle.records.specs.Passes.{is_new, noted, guest_look, becomes, large_bit};
 
-use super::record::{read, write};
+use super::record::{FREE, read, write};
 use super::table::{claims_in, offset};
 use fences::{TvmTracker, TvmVersion, tvm_done};
 use rules::Page;
+use rules::numbers::Kind;
 use sets::pages::PageSet;
 
-// What a look over a guest range finds: a page that is not mapped or not as wanted; or all there, with a version that is not done, or a large
-// mapping that is cut.
+// A look found a guest range whose pages are all mapped and of the kind wanted; the version of some may not be done, some large mapping may be cut.
 #[derive(Clone, Copy)]
-pub enum Guests {
-    Unready,
-    Ready { undone: bool, cut: bool },
+pub struct AllMapped {
+    pub undone: bool,
+    pub cut: bool,
 }
 
 // The record is the first to claim one of the guest pages; that one is seen from now on.
@@ -63,6 +63,7 @@ fn with_cut(cut: bool, p: Page, first: u32, count: u32) -> bool
     if is_cut(p, first, count) { true } else { cut }
 }
 
+// None where a guest page is not mapped or of another kind.
 pub fn look(
     t: &[u8],
     n: usize,
@@ -71,7 +72,7 @@ pub fn look(
     count: u32,
     kind: u8,
     fence: TvmTracker,
-) -> Guests
+) -> Option<AllMapped>
     requires { (8 * n ≤ length t.now) × (first + count ≤ 1048576) × (count ≤ 4096) }
     ensures { result ≡ guest_look (pages_of t.now) n slot first count kind (tvm_of fence) }
 {
@@ -79,27 +80,25 @@ pub fn look(
     let mut missing = count;
     let mut undone = false;
     let mut cut = false;
-    let mut i = 0;
-    while i < n {
+    for i in 0..n {
         let p = read(t, i);
         if is_first(&mut seen, p, slot, first, count) {
             if p.kind != kind {
-                return Guests::Unready;
+                return None;
             }
             undone = with_undone(undone, fence, p.version);
             cut = with_cut(cut, p, first, count);
             missing -= 1;
             if missing == 0 {
-                return Guests::Ready { undone, cut };
+                return Some(AllMapped { undone, cut });
             }
         }
-        i += 1;
     }
     // A range of pages has returned by now where all were there.
     if missing == 0 {
-        Guests::Ready { undone, cut }
+        Some(AllMapped { undone, cut })
     } else {
-        Guests::Unready
+        None
     }
 }
 
@@ -113,13 +112,8 @@ fn large_bit(guest: u32) -> u32
 fn moved(p: Page, slot: u8, kind: u8, version: u16) -> Page
     ensures { result ≡ becomes kind slot version p }
 {
-    if kind == 2 {
-        return Page {
-            kind: 2,
-            slot: 0,
-            version: 0,
-            guest: 0,
-        };
+    if kind == Kind::Free as u8 {
+        return FREE;
     }
     let guest = p.guest;
     Page {
@@ -136,8 +130,7 @@ pub fn rewrite(t: &mut [u8], n: usize, slot: u8, first: u32, count: u32, kind: u
 {
     let mut seen = PageSet::new();
     let mut left = count;
-    let mut i = 0;
-    while i < n {
+    for i in 0..n {
         let p = read(t, i);
         if is_first(&mut seen, p, slot, first, count) {
             write(t, i, moved(p, slot, kind, version));
@@ -146,6 +139,5 @@ pub fn rewrite(t: &mut [u8], n: usize, slot: u8, first: u32, count: u32, kind: u
                 return;
             }
         }
-        i += 1;
     }
 }

@@ -9,12 +9,12 @@ ghost use Rattle.records.specs.Passes.{wanted, unfinished, range_look, stepped};
 use super::record::{read, write};
 use fences::{GlobalTracker, GlobalVersion, global_done};
 use rules::Page;
+use rules::numbers::Kind;
 
-// What a look over a range finds: a page of another kind, or only wanted ones, of which some may be in a conversion that is not done.
+// A look found a range whose pages are all wanted; some may be in a conversion that is not done.
 #[derive(Clone, Copy)]
-pub enum Found {
-    Unwanted,
-    Wanted { unfinished: bool },
+pub struct AllWanted {
+    pub unfinished: bool,
 }
 
 // An ordinary page where the host's are wanted, else a free one.
@@ -22,9 +22,9 @@ fn is_wanted(host: bool, kind: u8) -> bool
     ensures { result ≡ wanted host kind }
 {
     if host {
-        kind == 0
+        kind == Kind::Ordinary as u8
     } else {
-        (kind == 1) | (kind == 2)
+        (kind == Kind::Converting as u8) | (kind == Kind::Free as u8)
     }
 }
 
@@ -32,28 +32,33 @@ fn is_unfinished(p: Page, fence: GlobalTracker) -> bool
     ensures { result ≡ unfinished (global_of fence) p }
 {
     let kind = p.kind;
-    if kind == 1 {
+    if kind == Kind::Converting as u8 {
         !global_done(fence, GlobalVersion(p.version))
     } else {
         false
     }
 }
 
-pub fn look(t: &[u8], first: usize, count: usize, host: bool, fence: GlobalTracker) -> Found
+// None where a page of the range is of another kind.
+pub fn look(
+    t: &[u8],
+    first: usize,
+    count: usize,
+    host: bool,
+    fence: GlobalTracker,
+) -> Option<AllWanted>
     requires { 8 * (first + count) ≤ length t.now }
     ensures { result ≡ range_look (pages_of t.now) first count host (global_of fence) }
 {
     let mut waits = false;
-    let mut i = 0;
-    while i < count {
+    for i in 0..count {
         let p = read(t, first + i);
         if !is_wanted(host, p.kind) {
-            return Found::Unwanted;
+            return None;
         }
         waits = waits | is_unfinished(p, fence);
-        i += 1;
     }
-    Found::Wanted { unfinished: waits }
+    Some(AllWanted { unfinished: waits })
 }
 
 fn page_of(p: Page, step: u32, i: u32) -> Page
@@ -73,10 +78,8 @@ pub fn fill(part: &mut [u8], count: u32, p: Page, step: u32)
     requires { (8 * count ≤ length part.old) × (p.guest + step * count < 2 ^ 32) }
     ensures { pages_of part.new ≡ over (pages_of part.old) (λ i. ltb i count) (stepped p step) }
 {
-    let mut i: u32 = 0;
-    while i < count {
+    for i in 0..count {
         write(part, i as usize, page_of(p, step, i));
-        i += 1;
     }
 }
 

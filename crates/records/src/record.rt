@@ -4,18 +4,15 @@ ghost use Rattle.rules.specs.Encoding.{pages_of};
 ghost use Rattle.records.specs.Passes.{put_page};
 
 use rules::Page;
+use rules::numbers::Kind;
 
-fn pair(lo: u8, hi: u8) -> u16
-    ensures { result ≡ lo + 256 * hi }
-{
-    lo as u16 + 256 * (hi as u16)
-}
-
-fn four(b0: u8, b1: u8, b2: u8, b3: u8) -> u32
-    ensures { result ≡ b0 + 256 * b1 + 65536 * b2 + 16777216 * b3 }
-{
-    b0 as u32 + 256 * (b1 as u32) + 65536 * (b2 as u32) + 16777216 * (b3 as u32)
-}
+// A free page's record. "Fields that a kind does not use are 0 when written."
+pub const FREE: Page = Page {
+    kind: Kind::Free as u8,
+    slot: 0,
+    version: 0,
+    guest: 0,
+};
 
 pub fn read(t: &[u8], i: usize) -> Page
     requires { 8 * i + 8 ≤ length t.now }
@@ -25,8 +22,8 @@ pub fn read(t: &[u8], i: usize) -> Page
     Page {
         kind: t[a],
         slot: t[a + 1],
-        version: pair(t[a + 2], t[a + 3]),
-        guest: four(t[a + 4], t[a + 5], t[a + 6], t[a + 7]),
+        version: u16::from_le_bytes([t[a + 2], t[a + 3]]),
+        guest: u32::from_le_bytes([t[a + 4], t[a + 5], t[a + 6], t[a + 7]]),
     }
 }
 
@@ -37,10 +34,6 @@ pub fn write(t: &mut [u8], i: usize, p: Page)
     let a = 8 * i;
     t[a] = p.kind;
     t[a + 1] = p.slot;
-    t[a + 2] = (p.version % 256) as u8;
-    t[a + 3] = (p.version / 256) as u8;
-    t[a + 4] = (p.guest % 256) as u8;
-    t[a + 5] = (p.guest / 256 % 256) as u8;
-    t[a + 6] = (p.guest / 65536 % 256) as u8;
-    t[a + 7] = (p.guest / 16777216) as u8;
+    t[a + 2..a + 4].copy_from_slice(&p.version.to_le_bytes());
+    t[a + 4..a + 8].copy_from_slice(&p.guest.to_le_bytes());
 }

@@ -5,8 +5,9 @@ ghost use Rattle.rules.specs.Page.{over, page, meant, is_given};
 ghost use Rattle.rules.specs.Encoding.{pages_of};
 ghost use Rattle.records.specs.Passes.{claims_in, offset_of};
 
-use super::record::{read, write};
+use super::record::{FREE, read, write};
 use rules::Page;
+use rules::numbers::Kind;
 
 // How far the page of a guest word is after `first`, counting on from the last guest page to page 0: so one test tells whether it is in a range.
 pub fn offset(guest: u32, first: u32) -> u32
@@ -22,14 +23,14 @@ pub fn claims_in(p: Page, slot: u8, first: u32, count: u32) -> bool
     ensures { result ≡ claims_in slot first count p }
 {
     let kind = p.kind;
-    if kind < 7 {
+    if kind < Kind::Mapped as u8 {
         return false;
     }
     if count <= offset(p.guest, first) {
         return false;
     }
     let own = p.slot;
-    (kind <= 8) & (own == slot)
+    (kind <= Kind::Blocked as u8) & (own == slot)
 }
 
 // Some guest page of the range is mapped.
@@ -37,12 +38,10 @@ pub fn any_claimed(t: &[u8], n: usize, slot: u8, first: u32, count: u32) -> bool
     requires { (8 * n ≤ length t.now) × (first + count ≤ 1048576) }
     ensures { result ≡ any (λ d. ltb (meant (pages_of t.now) n slot (first + d)) n) count }
 {
-    let mut i = 0;
-    while i < n {
+    for i in 0..n {
         if claims_in(read(t, i), slot, first, count) {
             return true;
         }
-        i += 1;
     }
     false
 }
@@ -52,7 +51,7 @@ fn is_given(p: Page, slot: u8) -> bool
 {
     let kind = p.kind;
     let own = p.slot;
-    (3 <= kind) & (kind <= 8) & (own == slot)
+    (Kind::Directory as u8 <= kind) & (kind <= Kind::Blocked as u8) & (own == slot)
 }
 
 // Every record of kinds 3 to 8 with the slot becomes free.
@@ -60,20 +59,9 @@ pub fn take_back(t: &mut [u8], n: usize, slot: u8)
     requires { length t.old ≡ 8 * n }
     ensures { pages_of t.new ≡ over (pages_of t.old) (λ i. is_given ((pages_of t.old).page i) && eqb ((pages_of t.old).page i).slot slot) (λ i. page 2 0 0 0) }
 {
-    let mut i = 0;
-    while i < n {
+    for i in 0..n {
         if is_given(read(t, i), slot) {
-            write(
-                t,
-                i,
-                Page {
-                    kind: 2,
-                    slot: 0,
-                    version: 0,
-                    guest: 0,
-                },
-            );
+            write(t, i, FREE);
         }
-        i += 1;
     }
 }

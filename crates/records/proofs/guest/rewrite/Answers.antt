@@ -2,12 +2,10 @@
 -- ends where none to come is meant.
 -- Assumes nothing.
 use Prim.Native.Nat.{ℕ, ◌<◌, ◌+◌, ◌-◌, ◌≤◌}
-use mathlib.Core.Path.{◌≡◌, refl, sym, ◌∙◌, ap}
+use mathlib.Core.Path.{◌≡◌, sym, ◌∙◌, ap}
 use mathlib.Core.List.{List}
 use mathlib.Core.Bool.{Bool, true, false}
 use native.Mathlib.Omega.{arith}
-use lib.ListN.{length}
-use borrow.Author.Rules.{rules}
 use borrow.Author.Tests.{le-ltb}
 use Rattle.rules.specs.declared.Page.{Page}
 use Rattle.rules.specs.Page.{Table, is_meant}
@@ -19,8 +17,7 @@ use Rattle.records.proofs.guest.rewrite.Goals as goal
 use Rattle.records.proofs.guest.rewrite.Goals.{then-is_first+else-left-eq0, else-is_first}
 
 pub loop-i-init : goal.loop-i-init
-loop-i-init c =
-    (search rules, refl, pass_none _ _ _, rw c.new-seen.ensures (seen_none _ _ _ _), rw c.new-seen.ensures (omega (arith, tally_none c.args.count)))
+loop-i-init c = (pass_none _ _ _, rw c.new-seen.ensures (seen_none _ _ _ _), rw c.new-seen.ensures (omega (arith, tally_none c.args.count)))
 
 -- what a turn knows once the record was asked
 turn : (T : Table) (n slot first count i : ℕ) (seen seen' : List ℕ) (left : ℕ) (p : Page) (r : Bool)
@@ -56,8 +53,8 @@ overflow_sub-left c =
     let x = c.args in
     let T = pages_of x.t.now in
     let inv = c.loop-i.invariant in
-    let read = c.read-p.ensures ∙ at_hand T _ _ c.loop-i.i _ inv.2 in
-    let known = turn T x.n x.slot x.first x.count c.loop-i.i c.loop-i.seen _ c.loop-i.left _ _ c.requires.2 c.loop-i-test.true inv.3 inv.4 read c.is_first.ensures in
+    let read = c.read-p.ensures ∙ at_hand T _ _ c.loop-i.i _ inv.0 in
+    let known = turn T x.n x.slot x.first x.count c.loop-i.i c.loop-i.seen _ c.loop-i.left _ _ c.requires.2 c.loop-i-test.true inv.1 inv.2 read c.is_first.ensures in
     (known.2 c.if-is_first.true).0
 
 pub returns-then-left-eq0 : goal.returns-then-left-eq0
@@ -65,11 +62,11 @@ returns-then-left-eq0 c =
     let x = c.args in
     let T = pages_of x.t.now in
     let inv = c.loop-i.invariant in
-    let read = c.read-p.ensures ∙ at_hand T _ _ c.loop-i.i _ inv.2 in
-    let known = turn T x.n x.slot x.first x.count c.loop-i.i c.loop-i.seen _ c.loop-i.left _ _ c.requires.2 c.loop-i-test.true inv.3 inv.4 read c.is_first.ensures in
+    let read = c.read-p.ensures ∙ at_hand T _ _ c.loop-i.i _ inv.0 in
+    let known = turn T x.n x.slot x.first x.count c.loop-i.i c.loop-i.seen _ c.loop-i.left _ _ c.requires.2 c.loop-i-test.true inv.1 inv.2 read c.is_first.ensures in
     let met : is_meant T x.n x.slot x.first x.count c.loop-i.i ≡ true = sym known.0 ∙ c.if-is_first.true in
     let full : tally x.count c.is_first.new.seen ≡ x.count = omega (arith, (known.2 c.if-is_first.true).1, c.if-left-eq0.true) in
-    written T x.n x.slot x.first x.count x.kind x.version c.loop-i.i _ _ _ _ inv.2 read c.moved.ensures met c.write.ensures
+    written T x.n x.slot x.first x.count x.kind x.version c.loop-i.i _ _ _ _ inv.0 read c.moved.ensures met c.write.ensures
     ∙ pass_end T _ _ (c.loop-i.i + 1) (none_left T x.n x.slot x.first x.count (c.loop-i.i + 1) _ known.1 full)
 
 pub loop-i-preserved : goal.loop-i-preserved
@@ -77,22 +74,17 @@ loop-i-preserved c =
     let x = c.args in
     let T = pages_of x.t.now in
     let inv = c.loop-i.invariant in
-    let read = c.read-p.ensures ∙ at_hand T _ _ c.loop-i.i _ inv.2 in
-    let known = turn T x.n x.slot x.first x.count c.loop-i.i c.loop-i.seen _ c.loop-i.left _ _ c.requires.2 c.loop-i-test.true inv.3 inv.4 read c.is_first.ensures in
-    let kept : length c.if-is_first.t ≡ length x.t.now = omega (arith, c.if-is_first.auto.t, c.loop-i.auto.t) in
+    let read = c.read-p.ensures ∙ at_hand T _ _ c.loop-i.i _ inv.0 in
+    let known = turn T x.n x.slot x.first x.count c.loop-i.i c.loop-i.seen _ c.loop-i.left _ _ c.requires.2 c.loop-i-test.true inv.1 inv.2 read c.is_first.ensures in
     elim c.if-is_first.branch [
       | then-is_first+else-left-eq0 w ↦ (
-        omega arith,
-        kept,
         ap pages_of w.t-is
-            ∙ written T x.n x.slot x.first x.count x.kind x.version c.loop-i.i _ _ _ _ inv.2 read w.moved.ensures (sym known.0 ∙ w.if-is_first.true) w.write.ensures,
+            ∙ written T x.n x.slot x.first x.count x.kind x.version c.loop-i.i _ _ _ _ inv.0 read w.moved.ensures (sym known.0 ∙ w.if-is_first.true) w.write.ensures,
         known.1,
         omega (arith, w.left-is, (known.2 w.if-is_first.true).1),
       )
       | else-is_first w ↦ (
-        omega arith,
-        kept,
-        ap pages_of w.t-is ∙ pass_skip T _ _ c.loop-i.i _ inv.2 (sym known.0 ∙ w.if-is_first.false),
+        ap pages_of w.t-is ∙ pass_skip T _ _ c.loop-i.i _ inv.0 (sym known.0 ∙ w.if-is_first.false),
         known.1,
         omega (arith, w.left-is, known.3 w.if-is_first.false),
       )
@@ -103,4 +95,4 @@ unfolding is_meant
 returns c =
     let x = c.args in
     let e : c.loop-i.i ≡ x.n = omega arith in
-    c.loop-i.invariant.2 ∙ pass_end (pages_of x.t.now) _ _ c.loop-i.i (λ j l. let m : x.n ≤ j = omega arith in rw (le-ltb j x.n m))
+    c.loop-i.invariant.0 ∙ pass_end (pages_of x.t.now) _ _ c.loop-i.i (λ j l. let m : x.n ≤ j = omega arith in rw (le-ltb j x.n m))

@@ -6,7 +6,6 @@ use mathlib.Core.Bool.{true}
 use native.Mathlib.Nat.{mul-le-mul_left}
 use native.Mathlib.Omega.{arith}
 use lib.Dec.{ltb}
-use borrow.Author.Rules.{rules}
 use Rattle.sets.proofs.Bools.{and_true}
 use Rattle.rules.specs.Encoding.{pages_of}
 use Rattle.records.specs.Passes.{stepped}
@@ -14,7 +13,7 @@ use Rattle.records.proofs.WritePass.{pass_none, pass_put, over_ext}
 use Rattle.records.proofs.range.fill.Goals as goal
 
 pub loop-i-init : goal.loop-i-init
-loop-i-init c = (search rules, refl, pass_none _ _ _)
+loop-i-init c = pass_none _ _ _
 
 pub page_of-requires : goal.page_of-requires
 page_of-requires c =
@@ -24,14 +23,11 @@ page_of-requires c =
 
 pub loop-i-preserved : goal.loop-i-preserved
 loop-i-preserved c =
-    let x = c.args in (
-      omega arith,
-      omega (arith, c.write.auto.t),
-      c.write.ensures
-          ∙ rw c.page_of.ensures (pass_put (pages_of x.part.now) (λ j. true) (stepped x.p x.step) c.loop-i.i _ c.loop-i.invariant.2 refl),
-    )
+    let x = c.args in
+    c.write.ensures
+    ∙ rw c.page_of.ensures (pass_put (pages_of x.part.now) (λ j. true) (stepped x.p x.step) c.loop-i.i _ c.loop-i.invariant refl)
 
 pub returns : goal.returns
 returns c =
     let e : c.loop-i.i ≡ c.args.count = omega arith in
-    c.loop-i.invariant.2 ∙ over_ext _ _ _ _ (λ j. and_true (ltb j c.loop-i.i) ∙ ap (ltb j) e)
+    c.loop-i.invariant ∙ over_ext _ _ _ _ (λ j. and_true (ltb j c.loop-i.i) ∙ ap (ltb j) e)

@@ -4,7 +4,6 @@ use Prim.Native.Nat.{◌+◌}
 use mathlib.Core.Path.{◌≡◌, refl}
 use mathlib.Core.Bool.{not}
 use native.Mathlib.Omega.{arith}
-use borrow.Author.Rules.{rules}
 use Rattle.sets.specs.Look.{any}
 use Rattle.sets.proofs.Looks.{any_hit, any_more, any_next}
 use Rattle.rules.specs.Encoding.{pages_of}
@@ -13,7 +12,7 @@ use Rattle.records.proofs.range.look.Goals as goal
 
 pub loop-i-init : goal.loop-i-init
 unfolding any
-loop-i-init c = (search rules, refl, refl)
+loop-i-init c = (refl, refl)
 
 pub returns-then-not-is_wanted : goal.returns-then-not-is_wanted
 unfolding range_look
@@ -24,13 +23,12 @@ returns-then-not-is_wanted c =
 pub loop-i-preserved : goal.loop-i-preserved
 loop-i-preserved c =
     let read = c.read-p.ensures in (
-      omega arith,
-      any_more _ c.loop-i.i c.loop-i.invariant.1 (rw (← read, ← c.is_wanted.ensures, c.if-not-is_wanted.false) refl),
-      rw (any_next, ← read, ← c.is_unfinished-waits.ensures, ← c.loop-i.invariant.2),
+      any_more _ c.loop-i.i c.loop-i.invariant.0 (rw (← read, ← c.is_wanted.ensures, c.if-not-is_wanted.false) refl),
+      rw (any_next, ← read, ← c.is_unfinished-waits.ensures, ← c.loop-i.invariant.1),
     )
 
 pub returns : goal.returns
 unfolding range_look
 returns c =
     let e : c.loop-i.i ≡ c.args.count = omega arith in
-    rw (← e, c.loop-i.invariant.1, ← c.loop-i.invariant.2)
+    rw (← e, c.loop-i.invariant.0, ← c.loop-i.invariant.1)

@@ -1,4 +1,4 @@
-use Prim.Native.Nat.{◌≤◌, ◌-◌, ◌+◌}
+use Prim.Native.Nat.{◌+◌}
 use mathlib.Core.Path.{◌≡◌}
 use mathlib.Core.Bool.{false, not}
 use Rattle.sets.specs.Look.{any}
@@ -9,7 +9,4 @@ use Rattle.records.proofs.range.look.Given as goal
 
 abbrev pub invariant-loop-i : goal.invariant-loop-i
 invariant-loop-i l =
-    (l.i ≤ l.count) × (any (λ j. not (wanted l.host ((pages_of l.t).page (l.first + j)).kind)) l.i ≡ false) × (l.waits ≡ any (λ j. unfinished (global_of l.fence) ((pages_of l.t).page (l.first + j))) l.i)
-
-abbrev pub decreases-loop-i : goal.decreases-loop-i
-decreases-loop-i l = l.count - l.i
+    (any (λ j. not (wanted l.host ((pages_of l.t).page (l.first + j)).kind)) l.i ≡ false) × (l.waits ≡ any (λ j. unfinished (global_of l.fence) ((pages_of l.t).page (l.first + j))) l.i)

@@ -2,7 +2,6 @@
 -- Assumes nothing.
 use mathlib.Core.Path.{◌≡◌, refl, sym, ◌∙◌, ap}
 use native.Mathlib.Omega.{arith}
-use borrow.Author.Rules.{rules}
 use Rattle.sets.specs.Look.{any}
 use Rattle.sets.proofs.Looks.{any_hit, any_more}
 use Rattle.rules.specs.Encoding.{pages_of}
@@ -12,7 +11,7 @@ use Rattle.records.proofs.table.any_claimed.Goals as goal
 
 pub loop-i-init : goal.loop-i-init
 unfolding any
-loop-i-init c = (search rules, refl)
+loop-i-init c = refl
 
 pub returns-then-claims_in : goal.returns-then-claims_in
 returns-then-claims_in c =
@@ -26,10 +25,10 @@ returns-then-claims_in c =
 
 pub loop-i-preserved : goal.loop-i-preserved
 loop-i-preserved c =
-    (omega arith, any_more _ c.loop-i.i c.loop-i.invariant.1 (rw (← c.read.ensures) (sym c.claims_in.ensures ∙ c.if-claims_in.false)))
+    any_more _ c.loop-i.i c.loop-i.invariant (rw (← c.read.ensures) (sym c.claims_in.ensures ∙ c.if-claims_in.false))
 
 pub returns : goal.returns
 returns c =
     let x = c.args in
     let e : c.loop-i.i ≡ x.n = omega arith in
-    sym c.loop-i.invariant.1 ∙ ap (any _) e ∙ any_claimed_is (pages_of x.t.now) x.n x.slot x.first x.count
+    sym c.loop-i.invariant ∙ ap (any _) e ∙ any_claimed_is (pages_of x.t.now) x.n x.slot x.first x.count

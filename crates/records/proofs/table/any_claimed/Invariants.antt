@@ -1,4 +1,3 @@
-use Prim.Native.Nat.{◌≤◌, ◌-◌}
 use mathlib.Core.Path.{◌≡◌}
 use mathlib.Core.Bool.{false}
 use Rattle.sets.specs.Look.{any}
@@ -7,7 +6,4 @@ use Rattle.records.specs.Passes.{claims_in}
 use Rattle.records.proofs.table.any_claimed.Given as goal
 
 abbrev pub invariant-loop-i : goal.invariant-loop-i
-invariant-loop-i l = (l.i ≤ l.n) × (any (λ j. claims_in l.slot l.first l.count ((pages_of l.t).page j)) l.i ≡ false)
-
-abbrev pub decreases-loop-i : goal.decreases-loop-i
-decreases-loop-i l = l.n - l.i
+invariant-loop-i l = any (λ j. claims_in l.slot l.first l.count ((pages_of l.t).page j)) l.i ≡ false

@@ -1,10 +1,9 @@
 -- `records::table::take_back` meets its contract: a pass that writes the records of the slot.
 -- Assumes nothing.
 use Prim.Native.Nat.{ℕ}
-use mathlib.Core.Path.{◌≡◌, refl, sym, ◌∙◌, ap}
+use mathlib.Core.Path.{◌≡◌, sym, ◌∙◌, ap}
 use mathlib.Core.Bool.{Bool}
 use native.Mathlib.Omega.{arith}
-use borrow.Author.Rules.{rules}
 use Rattle.rules.specs.declared.Page.{Page}
 use Rattle.rules.specs.Page.{page}
 use Rattle.rules.specs.Encoding.{pages_of}
@@ -15,7 +14,7 @@ use Rattle.records.proofs.table.take_back.Goals as goal
 use Rattle.records.proofs.table.take_back.Goals.{then-is_given, else-is_given}
 
 pub loop-i-init : goal.loop-i-init
-loop-i-init c = (search rules, refl, pass_none _ _ _)
+loop-i-init c = pass_none _ _ _
 
 pub loop-i-preserved : goal.loop-i-preserved
 loop-i-preserved c =
@@ -23,23 +22,15 @@ loop-i-preserved c =
     let T = pages_of x.t.now in
     let which : ℕ → Bool = λ j. given x.slot (T.page j) in
     let new : ℕ → Page = λ j. page 2 0 0 0 in
-    let here = c.is_given.ensures ∙ ap (given x.slot) (c.read.ensures ∙ at_hand T which new c.loop-i.i _ c.loop-i.invariant.2) in
+    let here = c.is_given.ensures ∙ ap (given x.slot) (c.read.ensures ∙ at_hand T which new c.loop-i.i _ c.loop-i.invariant) in
     elim c.if-is_given.branch [
-      | then-is_given w ↦ (
-        omega arith,
-        omega (arith, c.if-is_given.auto.t, c.loop-i.auto.t),
-        ap pages_of w.t-is ∙ w.write.ensures ∙ pass_put T which new c.loop-i.i _ c.loop-i.invariant.2 (sym here ∙ w.if-is_given.true),
-      )
-      | else-is_given w ↦ (
-        omega arith,
-        omega (arith, c.if-is_given.auto.t, c.loop-i.auto.t),
-        ap pages_of w.t-is ∙ pass_skip T which new c.loop-i.i _ c.loop-i.invariant.2 (sym here ∙ w.if-is_given.false),
-      )
+      | then-is_given w ↦ ap pages_of w.t-is ∙ w.write.ensures ∙ pass_put T which new c.loop-i.i _ c.loop-i.invariant (sym here ∙ w.if-is_given.true)
+      | else-is_given w ↦ ap pages_of w.t-is ∙ pass_skip T which new c.loop-i.i _ c.loop-i.invariant (sym here ∙ w.if-is_given.false)
     ]
 
 pub returns : goal.returns
 returns c =
     let x = c.args in
     let e : c.loop-i.i ≡ x.n = omega arith in
-    c.loop-i.invariant.2
+    c.loop-i.invariant
     ∙ pass_end (pages_of x.t.now) _ _ c.loop-i.i (λ j l. ap (given x.slot) (page_past x.t.now j (omega (arith, c.requires))))

@@ -1,8 +1,7 @@
-use Prim.Native.Nat.{ℕ, ◌≤◌, ◌-◌}
+use Prim.Native.Nat.{ℕ}
 use mathlib.Core.Path.{◌≡◌}
 use mathlib.Core.Bool.{Bool, ◌&&◌}
 use lib.Dec.{eqb}
-use lib.ListN.{length}
 use Rattle.rules.specs.declared.Page.{Page}
 use Rattle.rules.specs.Page.{page, is_given}
 use Rattle.rules.specs.Encoding.{pages_of}
@@ -14,7 +13,5 @@ abbrev pub given : ℕ → Page → Bool
 given slot p = is_given p && eqb p.slot slot
 
 abbrev pub invariant-loop-i : goal.invariant-loop-i
-invariant-loop-i l = (l.i ≤ l.n) × (length l.t ≡ length l.initial.t) × (pages_of l.t ≡ up_to (pages_of l.initial.t) (λ j. given l.slot ((pages_of l.initial.t).page j)) (λ j. page 2 0 0 0) l.i)
-
-abbrev pub decreases-loop-i : goal.decreases-loop-i
-decreases-loop-i l = l.n - l.i
+invariant-loop-i l =
+    pages_of l.t ≡ up_to (pages_of l.initial.t) (λ j. given l.slot ((pages_of l.initial.t).page j)) (λ j. page 2 0 0 0) l.i
