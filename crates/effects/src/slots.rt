@@ -18,10 +18,8 @@ fn clear_regions(l: &mut Words, k: u64)
     requires { k < 16 }
     ensures { view l.new ≡ with_slot k (slot_with ((view l.old).slot k).phase ((view l.old).slot k).fence ((view l.old).slot k).made (λ i. no_region)) (view l.old) }
 {
-    let mut i: u64 = 0;
-    while i < 8 {
+    for i in 0..8 {
         parts::set_region(&mut *l, k, i, Region { first: 0, pages: 0 });
-        i += 1;
     }
 }
 
@@ -57,7 +55,7 @@ pub fn add_region(l: &mut Words, k: u64, first: u64, pages: u64)
     requires { (k < 16) × (first + pages ≤ 1048576) × (lowest (n.unused ((view l.old).slot k)) 8 < 8) }
     ensures { view l.new ≡ with_slot k (slot_with ((view l.old).slot k).phase ((view l.old).slot k).fence ((view l.old).slot k).made (store (lowest (n.unused ((view l.old).slot k)) 8) (record { first = first; pages = pages }) ((view l.old).slot k).region)) (view l.old) }
 {
-    let i = unused(&*l, k);
+    let i = unused(&*l, k).unwrap();
     let r = Region {
         first: first as u32,
         pages: pages as u32,

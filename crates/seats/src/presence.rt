@@ -42,12 +42,10 @@ pub fn there(l: &Words, whole: bool, k: u64, v: u64) -> u8
     ensures { bits result ≡ there_of (view l.now) whole k v }
 {
     let mut set: u8 = 0;
-    let mut h: u64 = 0;
-    while h < 8 {
-        if is_there(parts::place_of(l, h), whole, k, v) {
-            set = sets::insert(set, h as u8);
+    for h in 0..8u8 {
+        if is_there(parts::place_of(l, h as u64), whole, k, v) {
+            set = sets::insert(set, h);
         }
-        h += 1;
     }
     set
 }

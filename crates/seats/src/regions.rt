@@ -50,14 +50,7 @@ fn meets_any(l: &Words, k: u64, whole: bool, first: u64, pages: u64) -> bool
     requires { first + pages ≤ 1048576 }
     ensures { result ≡ any (λ i. meets whole first pages (((view l.now).slot k).region i)) 8 }
 {
-    let mut i = 0;
-    while i < 8 {
-        if is_met(l, k, i, whole, first, pages) {
-            return true;
-        }
-        i += 1;
-    }
-    false
+    (0..8).any(|i| is_met(l, k, i, whole, first, pages))
 }
 
 pub fn refuses10(l: &Words, t: &[u8], q: Call, a: &[u64; 12], pages: u64) -> bool
