@@ -10,6 +10,7 @@ ghost use Rattle.fences.specs.Trackers.{tvm_of};
 ghost use Rattle.effects.specs.Parts.{no_region};
 
 use fences::{TvmTracker, tvm_ended};
+use rules::numbers::Phase;
 use seats::room::unused;
 use words::parts::Region;
 use words::{Words, parts};
@@ -39,7 +40,7 @@ pub fn create(l: &mut Words, k: u64)
     ensures { view l.new ≡ with_slot k (bare_with 1 ((view l.old).slot k).fence) (view l.old) }
 {
     let t = parts::fence(&*l, k);
-    bare(l, k, 1, t);
+    bare(l, k, Phase::Initializing as u32, t);
 }
 
 pub fn destroy(l: &mut Words, k: u64)
@@ -47,7 +48,7 @@ pub fn destroy(l: &mut Words, k: u64)
     ensures { view l.new ≡ with_slot k (destroyed ((view l.old).slot k)) (view l.old) }
 {
     let t = parts::fence(&*l, k);
-    bare(l, k, 0, tvm_ended(t));
+    bare(l, k, Phase::Empty as u32, tvm_ended(t));
 }
 
 // The region takes the lowest place that has none.

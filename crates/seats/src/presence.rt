@@ -11,6 +11,7 @@ use super::fencing::is_awaited;
 use door::early::is_made;
 use door::roles::{TVM, VCPU};
 use rules::Call;
+use rules::numbers::Operation;
 use words::parts::Place;
 use words::{Words, parts};
 
@@ -71,13 +72,13 @@ pub fn refuses12(l: &Words, t: &[u8], q: Call, a: &[u64; 12]) -> bool
     let vcpu = a[VCPU];
     let outside = is_outside(l, q.hart);
     let busy = is_busy(l, number, tvm, vcpu);
-    (!(number == 32) & !outside) | busy
+    (!(number == Operation::Leave as u64) & !outside) | busy
 }
 
 pub fn refuses15(l: &Words, t: &[u8], q: Call) -> bool
     ensures { result ≡ n.refuses15 (view l.now) (pages_of t.now) q }
 {
-    if q.number == 32 {
+    if q.number == Operation::Leave as u64 {
         return is_outside(l, q.hart);
     }
     false

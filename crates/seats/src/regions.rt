@@ -10,6 +10,7 @@ ghost use Rattle.seats.specs.Regions.{meets};
 use door::early::names;
 use door::roles::{GUEST, TVM, TYPE};
 use rules::Call;
+use rules::numbers::Operation;
 use words::parts::Region;
 use words::{Words, parts};
 
@@ -60,7 +61,7 @@ pub fn refuses10(l: &Words, t: &[u8], q: Call, a: &[u64; 12], pages: u64) -> boo
     let number = q.number;
     let tvm = a[TVM];
     let first = a[GUEST] / 4096;
-    if number == 9 {
+    if number == Operation::Region as u64 {
         return meets_any(l, tvm, false, first, pages);
     }
     if names(a, TYPE) {

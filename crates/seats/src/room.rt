@@ -8,6 +8,7 @@ ghost use Rattle.seats.specs.Room.{found};
 
 use door::roles::TVM;
 use rules::Call;
+use rules::numbers::Phase;
 use words::{Words, parts};
 
 fn is_takeable(l: &Words, k: u64) -> bool
@@ -15,7 +16,7 @@ fn is_takeable(l: &Words, k: u64) -> bool
 {
     let phase = parts::phase(l, k);
     let f = parts::fence(l, k);
-    (phase == 0) & (f.version.0 < 65534)
+    (phase == Phase::Empty as u32) & (f.version.0 < 65534)
 }
 
 // The lowest slot that create may take.
