@@ -1,10 +1,10 @@
 // What is written over the records of a range that a call names.
-ghost use Rattle.std.specs.Prelude.{◌≡◌, cond, ◌||◌, ◌+◌, ◌-◌, ◌*◌, ◌<◌, ◌≤◌, ◌^◌, ltb, length};
-ghost use Rattle.sets.specs.Terms.{within};
+ghost use Rattle.std.specs.Prelude.{◌≡◌, ◌+◌, ◌-◌, ◌*◌, ◌<◌, ◌≤◌, ◌^◌, ltb, length};
 ghost use Rattle.rules.specs.Page.{over, page, guest_word};
-ghost use Rattle.rules.specs.Calls.{memory, index};
+ghost use Rattle.rules.specs.Calls.{index};
 ghost use Rattle.rules.specs.Encoding.{view, pages_of};
 ghost use Rattle.records.specs.Passes.{stepped};
+ghost use Rattle.effects.specs.Ranges.{InTable, founded, given, mapping};
 
 use looks::sight::index_of;
 use records::range;
@@ -13,16 +13,16 @@ use words::{Words, parts};
 
 // The pages from an address on become p, its guest word `step` more from each to the next.
 fn give(t: &mut [u8], base: u64, pages: u64, p: Page, step: u32)
-    requires { (memory ≤ base) × (8 * (index base + pages) ≤ length t.old) × (pages ≤ 4096) × (p.guest + step * pages < 2 ^ 32) }
-    ensures { pages_of t.new ≡ over (pages_of t.old) (within (index base) pages) (λ i. stepped p step (i - index base)) }
+    requires { (InTable base pages t.old) × (p.guest + step * pages < 2 ^ 32) }
+    ensures { pages_of t.new ≡ given (pages_of t.old) base pages (λ i. stepped p step (i - index base)) }
 {
     range::fill_range(t, index_of(base), pages as u32, p, step);
 }
 
 // Every page becomes one of the kind with the slot.
 pub fn own(t: &mut [u8], base: u64, pages: u64, kind: u8, slot: u8)
-    requires { (memory ≤ base) × (8 * (index base + pages) ≤ length t.old) × (pages ≤ 4096) }
-    ensures { pages_of t.new ≡ over (pages_of t.old) (within (index base) pages) (λ i. page kind slot 0 0) }
+    requires { InTable base pages t.old }
+    ensures { pages_of t.new ≡ given (pages_of t.old) base pages (λ i. page kind slot 0 0) }
 {
     let p = Page {
         kind,
@@ -35,8 +35,8 @@ pub fn own(t: &mut [u8], base: u64, pages: u64, kind: u8, slot: u8)
 
 // Every page becomes a converting one of the present global version.
 pub fn convert(l: &Words, t: &mut [u8], base: u64, pages: u64)
-    requires { (memory ≤ base) × (8 * (index base + pages) ≤ length t.old) × (pages ≤ 4096) }
-    ensures { pages_of t.new ≡ over (pages_of t.old) (within (index base) pages) (λ i. page 1 0 (view l.now).global.version 0) }
+    requires { InTable base pages t.old }
+    ensures { pages_of t.new ≡ given (pages_of t.old) base pages (λ i. page 1 0 (view l.now).global.version 0) }
 {
     let g = parts::global(l);
     let p = Page {
@@ -57,8 +57,8 @@ fn guest_word(first: u32, large: bool) -> u32
 
 // "Page i of a range goes to guest page i".
 pub fn map(t: &mut [u8], base: u64, pages: u64, slot: u8, first: u32, large: bool)
-    requires { (memory ≤ base) × (8 * (index base + pages) ≤ length t.old) × (pages ≤ 4096) × (first + pages ≤ 1048576) }
-    ensures { pages_of t.new ≡ over (pages_of t.old) (within (index base) pages) (λ i. page 7 slot 0 (guest_word (first + (i - index base)) large)) }
+    requires { (InTable base pages t.old) × (first + pages ≤ 1048576) }
+    ensures { pages_of t.new ≡ given (pages_of t.old) base pages (mapping base slot first large) }
 {
     let p = Page {
         kind: 7,
@@ -71,8 +71,8 @@ pub fn map(t: &mut [u8], base: u64, pages: u64, slot: u8, first: u32, large: boo
 
 // The four pages of the directory, and the state page. (The directory's come last: they are kind 3 whatever the state page is.)
 pub fn found(t: &mut [u8], directory: u64, state: u64, slot: u8)
-    requires { ((memory ≤ directory) × (8 * (index directory + 4) ≤ length t.old)) × ((memory ≤ state) × (8 * (index state + 1) ≤ length t.old)) }
-    ensures { pages_of t.new ≡ over (pages_of t.old) (λ i. within (index directory) 4 i || within (index state) 1 i) (λ i. page (cond (within (index directory) 4 i) 3 4) slot 0 0) }
+    requires { (InTable directory 4 t.old) × (InTable state 1 t.old) }
+    ensures { pages_of t.new ≡ founded (pages_of t.old) directory state slot }
 {
     own(&mut *t, state, 1, 4, slot);
     own(t, directory, 4, 3, slot);

@@ -38,8 +38,9 @@ found-requires c =
     let q = c.args.q in
     let e = c.in-5.is in
     let one : ◌≡◌ {A = ℕ} c.args.pages 1 = r.sized ∙ rw e in
+    let d = directory_fits r (named_at 5 DirectoryBase q e) in
     let f = free_fits r c.requires.1 in
-    (directory_fits r (named_at 5 DirectoryBase q e), (f.0, omega (arith, f.1, one)))
+    ((d.0, d.1, omega arith), (f.0, omega (arith, f.1, one), omega arith))
 
 pub overflow_cast-tvm : goal.overflow_cast-tvm
 unfolding entry_of one_of one_from
@@ -88,7 +89,7 @@ map-requires c =
     let r = c.requires.0 in
     let q = c.args.q in
     let n = typed_free q c.requires.1 (omega arith) (omega arith) (omega arith) (omega arith) in
-    ((free_fits r c.requires.1).0, (free_fits r c.requires.1).1, pages_fit r (typed_not_9 q n), guest_fits r (typed_guest q n))
+    (((free_fits r c.requires.1).0, (free_fits r c.requires.1).1, pages_fit r (typed_not_9 q n)), guest_fits r (typed_guest q n))
 
 pub returns-in-2 : goal.returns-in-2
 returns-in-2 c =
