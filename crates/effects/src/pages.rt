@@ -9,7 +9,20 @@ ghost use Rattle.effects.specs.Ranges.{InTable, founded, given, mapping};
 use looks::sight::index_of;
 use records::range;
 use rules::Page;
+use rules::numbers::Kind;
 use words::{Words, parts};
+
+// A record that keeps neither a version nor a guest page.
+fn bare_page(kind: u8, slot: u8) -> Page
+    ensures { result ≡ page kind slot 0 0 }
+{
+    Page {
+        kind,
+        slot,
+        version: 0,
+        guest: 0,
+    }
+}
 
 // The pages from an address on become p, its guest word `step` more from each to the next.
 fn give(t: &mut [u8], base: u64, pages: u64, p: Page, step: u32)
@@ -24,13 +37,7 @@ pub fn own(t: &mut [u8], base: u64, pages: u64, kind: u8, slot: u8)
     requires { InTable base pages t.old }
     ensures { pages_of t.new ≡ given (pages_of t.old) base pages (λ i. page kind slot 0 0) }
 {
-    let p = Page {
-        kind,
-        slot,
-        version: 0,
-        guest: 0,
-    };
-    give(t, base, pages, p, 0);
+    give(t, base, pages, bare_page(kind, slot), 0);
 }
 
 // Every page becomes a converting one of the present global version.
@@ -40,10 +47,8 @@ pub fn convert(l: &Words, t: &mut [u8], base: u64, pages: u64)
 {
     let g = parts::global(l);
     let p = Page {
-        kind: 1,
-        slot: 0,
         version: g.version.0,
-        guest: 0,
+        ..bare_page(Kind::Converting as u8, 0)
     };
     give(t, base, pages, p, 0);
 }
@@ -61,10 +66,8 @@ pub fn map(t: &mut [u8], base: u64, pages: u64, slot: u8, first: u32, large: boo
     ensures { pages_of t.new ≡ given (pages_of t.old) base pages (mapping base slot first large) }
 {
     let p = Page {
-        kind: 7,
-        slot,
-        version: 0,
         guest: guest_word(first, large),
+        ..bare_page(Kind::Mapped as u8, slot)
     };
     give(t, base, pages, p, 1);
 }
@@ -74,8 +77,8 @@ pub fn found(t: &mut [u8], directory: u64, state: u64, slot: u8)
     requires { (InTable directory 4 t.old) × (InTable state 1 t.old) }
     ensures { pages_of t.new ≡ founded (pages_of t.old) directory state slot }
 {
-    own(&mut *t, state, 1, 4, slot);
-    own(t, directory, 4, 3, slot);
+    own(&mut *t, state, 1, Kind::TvmState as u8, slot);
+    own(t, directory, 4, Kind::Directory as u8, slot);
 }
 
 // Every record of the table becomes an ordinary one.
@@ -83,11 +86,5 @@ pub fn clear(t: &mut [u8], pages: u64)
     requires { (8 * pages ≤ length t.old) × (pages ≤ 4096) }
     ensures { pages_of t.new ≡ over (pages_of t.old) (λ i. ltb i pages) (λ i. page 0 0 0 0) }
 {
-    let p = Page {
-        kind: 0,
-        slot: 0,
-        version: 0,
-        guest: 0,
-    };
-    range::fill_range(t, 0, pages as u32, p, 0);
+    range::fill_range(t, 0, pages as u32, bare_page(Kind::Ordinary as u8, 0), 0);
 }
