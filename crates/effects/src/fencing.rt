@@ -1,8 +1,9 @@
 // Fences: the global one begun, a hart struck out of it, and a TVM's begun. Each gives the number of harts that it leaves awaited.
 ghost use Rattle.std.specs.Prelude.{◌≡◌, ◌<◌, ◌≤◌};
-ghost use Rattle.rules.specs.Fence.{begin, strike, number};
-ghost use Rattle.rules.specs.Ledger.{with_global, with_slot, with_fence, others_of, insiders_of};
+ghost use Rattle.rules.specs.Fence.{strike, number};
+ghost use Rattle.rules.specs.Ledger.{others_of, insiders_of};
 ghost use Rattle.rules.specs.Encoding.{view};
+ghost use Rattle.effects.specs.Parts.{begun, begun_in, struck};
 
 use fences::{global_begun, global_struck, how_many, lent};
 use seats::presence::there;
@@ -10,7 +11,7 @@ use words::{Words, parts, sizes};
 
 pub fn global_fence(l: &mut Words, hart: u64) -> u64
     requires { (hart < 8) × ((view l.old).harts ≤ 8) × ((view l.old).global.version < 65535) }
-    ensures { (result ≡ number (others_of (view l.old) hart)) × (view l.new ≡ with_global (begin (others_of (view l.old) hart) (view l.old).global) (view l.old)) }
+    ensures { (result ≡ number (others_of (view l.old) hart)) × (view l.new ≡ begun hart (view l.old)) }
 {
     let harts = sizes::harts(&*l);
     let others = sets::remove(sets::first(harts), hart as usize);
@@ -21,7 +22,7 @@ pub fn global_fence(l: &mut Words, hart: u64) -> u64
 
 pub fn local_fence(l: &mut Words, hart: u64) -> u64
     requires { hart < 8 }
-    ensures { (result ≡ number (strike hart (view l.old).global).awaited) × (view l.new ≡ with_global (strike hart (view l.old).global) (view l.old)) }
+    ensures { (result ≡ number (strike hart (view l.old).global).awaited) × (view l.new ≡ struck hart (view l.old)) }
 {
     let g = parts::global(&*l);
     let rest = global_struck(g, hart as u8);
@@ -31,7 +32,7 @@ pub fn local_fence(l: &mut Words, hart: u64) -> u64
 
 pub fn tvm_fence(l: &mut Words, k: u64) -> u64
     requires { (k < 16) × (((view l.old).slot k).fence.version < 65534) }
-    ensures { (result ≡ number (insiders_of (view l.old) k)) × (view l.new ≡ with_slot k (with_fence (begin (insiders_of (view l.old) k) ((view l.old).slot k).fence) ((view l.old).slot k)) (view l.old)) }
+    ensures { (result ≡ number (insiders_of (view l.old) k)) × (view l.new ≡ begun_in k (view l.old)) }
 {
     let inside = there(&*l, true, k, 0);
     let t = parts::fence(&*l, k);

@@ -18,7 +18,7 @@ fn create(l: &mut Words) -> u64
     requires { n.taken (view l.old) < 16 }
     ensures { (result ≡ n.taken (view l.old)) × (view l.new ≡ with_slot (n.taken (view l.old)) (bare 1 ((view l.old).slot (n.taken (view l.old))).fence) (view l.old)) }
 {
-    let k = taken(&*l);
+    let k = taken(&*l).unwrap();
     slots::create(l, k);
     k
 }

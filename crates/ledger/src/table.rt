@@ -26,7 +26,8 @@ fn on_free(l: &Words, t: &mut [u8], q: Call, a: &[u64; 12], pages: u64)
     let number = q.number;
     match number {
         2 => pages::own(t, free, pages, 0, 0),
-        5 => pages::found(t, a[DIRECTORY], free, taken(l) as u8),
+        // 16 where no slot can be taken, as in the definition; refusal 9 keeps the call from coming here then.
+        5 => pages::found(t, a[DIRECTORY], free, taken(l).unwrap_or(16) as u8),
         10 => pages::own(t, free, pages, 6, tvm as u8),
         14 => pages::own(t, free, pages, 5, tvm as u8),
         _ => {

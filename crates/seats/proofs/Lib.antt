@@ -1,2 +1,3 @@
 pub mod Overlaps
 pub mod Seats
+pub mod Scans

@@ -11,6 +11,7 @@ use super::fencing::is_awaited;
 use door::early::is_made;
 use door::roles::{TVM, VCPU};
 use rules::Call;
+use rules::numbers::Operation;
 use words::parts::Place;
 use words::{Words, parts};
 
@@ -42,12 +43,10 @@ pub fn there(l: &Words, whole: bool, k: u64, v: u64) -> u8
     ensures { bits result ≡ there_of (view l.now) whole k v }
 {
     let mut set: u8 = 0;
-    let mut h: u64 = 0;
-    while h < 8 {
-        if is_there(parts::place_of(l, h), whole, k, v) {
-            set = sets::insert(set, h as usize);
+    for h in 0..8u8 {
+        if is_there(parts::place_of(l, h as u64), whole, k, v) {
+            set = sets::insert(set, usize::from(h));
         }
-        h += 1;
     }
     set
 }
@@ -73,13 +72,13 @@ pub fn refuses12(l: &Words, t: &[u8], q: Call, a: &[u64; 12]) -> bool
     let vcpu = a[VCPU];
     let outside = is_outside(l, q.hart);
     let busy = is_busy(l, number, tvm, vcpu);
-    (!(number == 32) & !outside) | busy
+    (!(number == Operation::Leave as u64) & !outside) | busy
 }
 
 pub fn refuses15(l: &Words, t: &[u8], q: Call) -> bool
     ensures { result ≡ n.refuses15 (view l.now) (pages_of t.now) q }
 {
-    if q.number == 32 {
+    if q.number == Operation::Leave as u64 {
         return is_outside(l, q.hart);
     }
     false

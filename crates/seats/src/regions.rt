@@ -10,6 +10,7 @@ ghost use Rattle.seats.specs.Regions.{meets};
 use door::early::names;
 use door::roles::{GUEST, TVM, TYPE};
 use rules::Call;
+use rules::numbers::Operation;
 use words::parts::Region;
 use words::{Words, parts};
 
@@ -50,14 +51,7 @@ fn meets_any(l: &Words, k: u64, whole: bool, first: u64, pages: u64) -> bool
     requires { first + pages ≤ 1048576 }
     ensures { result ≡ any (λ i. meets whole first pages (((view l.now).slot k).region i)) 8 }
 {
-    let mut i = 0;
-    while i < 8 {
-        if is_met(l, k, i, whole, first, pages) {
-            return true;
-        }
-        i += 1;
-    }
-    false
+    (0..8).any(|i| is_met(l, k, i, whole, first, pages))
 }
 
 pub fn refuses10(l: &Words, t: &[u8], q: Call, a: &[u64; 12], pages: u64) -> bool
@@ -67,7 +61,7 @@ pub fn refuses10(l: &Words, t: &[u8], q: Call, a: &[u64; 12], pages: u64) -> boo
     let number = q.number;
     let tvm = a[TVM];
     let first = a[GUEST] / 4096;
-    if number == 9 {
+    if number == Operation::Region as u64 {
         return meets_any(l, tvm, false, first, pages);
     }
     if names(a, TYPE) {

@@ -4,9 +4,11 @@ ghost use Rattle.sets.specs.Look.{lowest};
 ghost use Rattle.rules.specs.Refusals as n;
 ghost use Rattle.rules.specs.Encoding.{view, pages_of};
 ghost use Rattle.door.specs.Asked.{Asked};
+ghost use Rattle.seats.specs.Room.{found};
 
 use door::roles::TVM;
 use rules::Call;
+use rules::numbers::Phase;
 use words::{Words, parts};
 
 fn is_takeable(l: &Words, k: u64) -> bool
@@ -14,21 +16,14 @@ fn is_takeable(l: &Words, k: u64) -> bool
 {
     let phase = parts::phase(l, k);
     let f = parts::fence(l, k);
-    (phase == 0) & (f.version.0 < 65534)
+    (phase == Phase::Empty as u32) & (f.version.0 < 65534)
 }
 
-// The lowest slot that create may take, 16 where there is none.
-pub fn taken(l: &Words) -> u64
-    ensures { result ≡ n.taken (view l.now) }
+// The lowest slot that create may take.
+pub fn taken(l: &Words) -> Option<u64>
+    ensures { result ≡ found 16 (n.taken (view l.now)) }
 {
-    let mut k = 0;
-    while k < 16 {
-        if is_takeable(l, k) {
-            return k;
-        }
-        k += 1;
-    }
-    16
+    (0..16).find(|k| is_takeable(l, *k))
 }
 
 fn is_unused(l: &Words, k: u64, i: u64) -> bool
@@ -38,18 +33,11 @@ fn is_unused(l: &Words, k: u64, i: u64) -> bool
     r.pages == 0
 }
 
-// The lowest place of the slot that has no region, 8 where there is none.
-pub fn unused(l: &Words, k: u64) -> u64
-    ensures { result ≡ lowest (n.unused ((view l.now).slot k)) 8 }
+// The lowest place of the slot that has no region.
+pub fn unused(l: &Words, k: u64) -> Option<u64>
+    ensures { result ≡ found 8 (lowest (n.unused ((view l.now).slot k)) 8) }
 {
-    let mut i = 0;
-    while i < 8 {
-        if is_unused(l, k, i) {
-            return i;
-        }
-        i += 1;
-    }
-    8
+    (0..8).find(|i| is_unused(l, k, *i))
 }
 
 pub fn refuses9(l: &Words, t: &[u8], q: Call, a: &[u64; 12]) -> bool
@@ -58,8 +46,8 @@ pub fn refuses9(l: &Words, t: &[u8], q: Call, a: &[u64; 12]) -> bool
 {
     let number = q.number;
     match number {
-        5 => !(taken(l) < 16),
-        9 => !(unused(l, a[TVM]) < 8),
+        5 => taken(l).is_none(),
+        9 => unused(l, a[TVM]).is_none(),
         _ => false,
     }
 }

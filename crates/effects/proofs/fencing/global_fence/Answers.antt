@@ -9,12 +9,6 @@ use Rattle.rules.proofs.HartSets.{bits_others}
 use Rattle.fences.specs.Trackers.{global_of}
 use Rattle.effects.proofs.fencing.global_fence.Goals as goal
 
-pub global_begun-requires : goal.global_begun-requires
-global_begun-requires c =
-    let v : c.global-g.result.version.0 ≡ (view c.args.l.now).global.version = λ i. (c.global-g.ensures i).version in
-    let h : c.global-g.result.version.0 < 65535 = rw v c.requires.2 in
-    search rules
-
 pub returns : goal.returns
 returns c =
     let l = view c.args.l.now in

@@ -8,12 +8,6 @@ use Rattle.rules.specs.Encoding.{view, bits}
 use Rattle.fences.specs.Trackers.{tvm_of}
 use Rattle.effects.proofs.fencing.tvm_fence.Goals as goal
 
-pub begin_one-requires : goal.begin_one-requires
-begin_one-requires c =
-    let v : c.fence-t.result.version.0 ≡ ((view c.args.l.now).slot c.args.k).fence.version = λ i. (c.fence-t.ensures i).version in
-    let h : c.fence-t.result.version.0 < 65535 = rw v (omega (arith, c.requires.1)) in
-    search rules
-
 pub returns : goal.returns
 returns c =
     let l = view c.args.l.now in

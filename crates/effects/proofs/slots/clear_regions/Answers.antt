@@ -1,6 +1,5 @@
 use mathlib.Core.Path.{◌≡◌, sym, ◌∙◌}
 use native.Mathlib.Omega.{arith}
-use borrow.Author.Rules.{rules}
 use Rattle.sets.specs.Terms.{put}
 use Rattle.rules.specs.Ledger.{Slot, with_slot, slot}
 use Rattle.rules.specs.Encoding.{view}
@@ -8,31 +7,12 @@ use Rattle.effects.specs.Parts.{no_region}
 use Rattle.effects.proofs.Puts.{slot_same, slot_again, cleared_to, cleared_none, cleared_next, cleared_all}
 use Rattle.effects.proofs.slots.clear_regions.Goals as goal
 
-pub loop-i-init : goal.loop-i-init
-loop-i-init c =
-    let v = view c.args.l.now in
-    let s = v.slot c.args.k in
-    (search rules, slot_same c.args.k v ∙ (λ i. with_slot c.args.k (slot s.phase s.fence s.made (sym (cleared_none s.region) i)) v))
-
-pub set_region-requires : goal.set_region-requires
-set_region-requires c = (c.requires, c.loop-i-test.true)
-
-pub loop-i-preserved : goal.loop-i-preserved
-loop-i-preserved c =
-    let v = view c.args.l.now in
-    let k = c.args.k in
-    let s = v.slot k in (
-      omega arith,
-      slot_again (λ (x : Slot). slot x.phase x.fence x.made (put c.loop-i.i no_region x.region)) k _ v _ _ c.loop-i.invariant.1 c.set_region.ensures
-          ∙ (λ i. with_slot k (slot s.phase s.fence s.made (cleared_next c.loop-i.i s.region i)) v),
-    )
-
 pub returns : goal.returns
 returns c =
     let v = view c.args.l.now in
     let k = c.args.k in
     let s = v.slot k in
     let e : c.loop-i.i ≡ 8 = omega arith in
-    c.loop-i.invariant.1
+    c.loop-i.invariant
     ∙ (λ i. with_slot k (slot s.phase s.fence s.made (cleared_to (e i) s.region)) v)
     ∙ (λ i. with_slot k (slot s.phase s.fence s.made (cleared_all c.args.l.now k i)) v)

@@ -13,6 +13,7 @@ use Rattle.rules.specs.Calls.{entry_of, names, size, index}
 use Rattle.rules.specs.Encoding.{view, pages_of}
 use Rattle.rules.proofs.CallTable.{named_at}
 use Rattle.door.proofs.Ready.{free_fits, directory_fits, tvm_fits, pages_fit, guest_fits, typed_tvm, typed_guest, typed_not_9}
+use Rattle.seats.proofs.Scans.{find_or}
 use Rattle.ledger.proofs.ByNumber.{table_2, table_5, table_10, table_14, table_typed, typed_free}
 use Rattle.ledger.proofs.table.on_free.Goals as goal
 
@@ -22,9 +23,13 @@ own-requires c =
     let q = c.args.q in
     ((free_fits r c.requires.1).0, (free_fits r c.requires.1).1, pages_fit r (rw c.in-2.is))
 
-pub overflow_cast-taken : goal.overflow_cast-taken
+pub overflow_cast-unwrap_or : goal.overflow_cast-unwrap_or
 unfolding taken
-overflow_cast-taken c = let h = lowest_le (takeable (view c.args.l.now)) 16 in let e = c.taken.ensures in search rules
+overflow_cast-unwrap_or c =
+    let p = takeable (view c.args.l.now) in
+    let h = lowest_le p 16 in
+    let e = find_or p 16 _ _ c.taken.ensures c.unwrap_or.ensures in
+    search rules
 
 pub found-requires : goal.found-requires
 unfolding names entry_of one_of one_from size
@@ -33,8 +38,9 @@ found-requires c =
     let q = c.args.q in
     let e = c.in-5.is in
     let one : ◌≡◌ {A = ℕ} c.args.pages 1 = r.sized ∙ rw e in
+    let d = directory_fits r (named_at 5 DirectoryBase q e) in
     let f = free_fits r c.requires.1 in
-    (directory_fits r (named_at 5 DirectoryBase q e), (f.0, omega (arith, f.1, one)))
+    ((d.0, d.1, omega arith), (f.0, omega (arith, f.1, one), omega arith))
 
 pub overflow_cast-tvm : goal.overflow_cast-tvm
 unfolding entry_of one_of one_from
@@ -83,7 +89,7 @@ map-requires c =
     let r = c.requires.0 in
     let q = c.args.q in
     let n = typed_free q c.requires.1 (omega arith) (omega arith) (omega arith) (omega arith) in
-    ((free_fits r c.requires.1).0, (free_fits r c.requires.1).1, pages_fit r (typed_not_9 q n), guest_fits r (typed_guest q n))
+    (((free_fits r c.requires.1).0, (free_fits r c.requires.1).1, pages_fit r (typed_not_9 q n)), guest_fits r (typed_guest q n))
 
 pub returns-in-2 : goal.returns-in-2
 returns-in-2 c =
@@ -101,9 +107,10 @@ returns-in-5 c =
     let l = view c.args.l.now in
     let t = pages_of c.args.t.now in
     let e = c.in-5.is in
+    let slot = find_or (takeable l) 16 _ _ c.taken.ensures c.unwrap_or.ensures in
     c.found.ensures
     ∙ (λ i. over t (λ j. within (index (r.asked.value DirectoryBase i)) 4 j || within (index (r.asked.value FreeBase i)) 1 j)
-    (λ j. page (cond (within (index (r.asked.value DirectoryBase i)) 4 j) 3 4) (c.taken.ensures i) 0 0))
+    (λ j. page (cond (within (index (r.asked.value DirectoryBase i)) 4 j) 3 4) (slot i) 0 0))
     ∙ sym (table_5 l t q e)
 
 pub returns-in-10 : goal.returns-in-10

@@ -3,10 +3,10 @@ use borrow.Author.Tests.{eq-eqb, ne_eqb}
 use Rattle.rules.specs.Refusals.{refuses15}
 use Rattle.seats.proofs.presence.refuses15.Goals as goal
 
-pub returns-then-q-eq32 : goal.returns-then-q-eq32
+pub returns-then-q : goal.returns-then-q
 unfolding refuses15
-returns-then-q-eq32 c = c.is_outside.ensures ∙ rw (eq-eqb _ _ c.if-q-eq32.true)
+returns-then-q c = c.is_outside.ensures ∙ rw (eq-eqb _ _ c.if-q.true)
 
 pub returns : goal.returns
 unfolding refuses15
-returns c = rw (ne_eqb _ _ c.if-q-eq32.false)
+returns c = rw (ne_eqb _ _ c.if-q.false)

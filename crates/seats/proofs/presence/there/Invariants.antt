@@ -1,4 +1,3 @@
-use Prim.Native.Nat.{◌≤◌, ◌-◌}
 use mathlib.Core.Path.{◌≡◌}
 use Rattle.rules.specs.Encoding.{view, bits}
 use Rattle.rules.proofs.HartSets.{upto}
@@ -6,7 +5,4 @@ use Rattle.seats.specs.Harts.{there_of}
 use Rattle.seats.proofs.presence.there.Given as goal
 
 abbrev pub invariant-loop-h : goal.invariant-loop-h
-invariant-loop-h l = (bits l.set ≡ upto (there_of (view l.l) l.whole l.k l.v) l.h) × (l.h ≤ 8)
-
-abbrev pub decreases-loop-h : goal.decreases-loop-h
-decreases-loop-h l = 8 - l.h
+invariant-loop-h l = bits l.set ≡ upto (there_of (view l.l) l.whole l.k l.v) l.h

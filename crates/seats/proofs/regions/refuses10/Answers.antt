@@ -12,16 +12,16 @@ use Rattle.door.proofs.Ready.{guest_fits, region_guest, region_untyped, typed_gu
 use Rattle.seats.proofs.regions.refuses10.Goals as goal
 
 pub meets_any-requires : goal.meets_any-requires
-meets_any-requires c = guest_fits c.requires (region_guest c.args.q c.if-number-eq9.true)
+meets_any-requires c = guest_fits c.requires (region_guest c.args.q c.if-number.true)
 
-pub returns-then-number-eq9 : goal.returns-then-number-eq9
+pub returns-then-number : goal.returns-then-number
 unfolding refuses10
-returns-then-number-eq9 c =
+returns-then-number c =
     let a = c.requires.asked in
     let q = c.args.q in
     let l = view c.args.l.now in
     let t = pages_of c.args.t.now in
-    let e : q.number ≡ 9 = c.if-number-eq9.true in
+    let e : q.number ≡ 9 = c.if-number.true in
     c.meets_any.ensures
     ∙ (λ i. any (λ j. overlaps (a.value GuestBase i / 4096) (c.requires.sized i) ((l.slot (a.value Tvm i)).region j)) 8)
     ∙ rw (eq-eqb q.number 9 e, region_untyped q e) (sym (or_false (any (λ j. overlaps (first_guest q) (size q) ((l.slot (arg Tvm q)).region j)) 8)))
@@ -36,9 +36,9 @@ returns-then-names c =
     let q = c.args.q in
     let l = view c.args.l.now in
     ap not (c.meets_any-then-names.ensures ∙ (λ i. any (λ j. holds (a.value GuestBase i / 4096) (c.requires.sized i) ((l.slot (a.value Tvm i)).region j)) 8))
-    ∙ rw (ne_eqb q.number 9 c.if-number-eq9.false, sym (c.names.ensures ∙ a.named UnitType) ∙ c.if-names.true)
+    ∙ rw (ne_eqb q.number 9 c.if-number.false, sym (c.names.ensures ∙ a.named UnitType) ∙ c.if-names.true)
 
 pub returns : goal.returns
 unfolding refuses10
 returns c =
-    rw (ne_eqb c.args.q.number 9 c.if-number-eq9.false, sym (c.names.ensures ∙ c.requires.asked.named UnitType) ∙ c.if-names.false)
+    rw (ne_eqb c.args.q.number 9 c.if-number.false, sym (c.names.ensures ∙ c.requires.asked.named UnitType) ∙ c.if-names.false)

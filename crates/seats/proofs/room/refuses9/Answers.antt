@@ -1,14 +1,14 @@
-use native.Mathlib.Omega.{arith}
 use Prim.Native.Nat.{ℕ}
+use native.Mathlib.Omega.{arith}
 use mathlib.Core.Path.{refl, ◌∙◌, ap}
 use mathlib.Core.Bool.{not}
-use lib.Dec.{ltb}
 use Rattle.sets.specs.Look.{any, lowest}
-use Rattle.sets.proofs.Looks.{lowest-any}
 use Rattle.rules.specs.declared.Role.TheVariants.{Tvm}
 use Rattle.rules.specs.Calls.{arg}
 use Rattle.rules.specs.Refusals.{refuses9, takeable, taken, unused}
 use Rattle.rules.specs.Encoding.{view}
+use Rattle.seats.specs.Room.{found}
+use Rattle.seats.proofs.Scans.{find_none}
 use Rattle.seats.proofs.Seats.{at_first, at_second, at_neither}
 use Rattle.seats.proofs.room.refuses9.Goals as goal
 
@@ -16,14 +16,14 @@ pub returns-in-5 : goal.returns-in-5
 unfolding refuses9 taken
 returns-in-5 c =
     let l = view c.args.l.now in
-    ap (λ (x : ℕ). not (ltb x 16)) c.taken.ensures ∙ ap not (lowest-any (takeable l) 16) ∙ at_first 5 9 c.args.q.number (not (any (takeable l) 16)) _ refl refl c.in-5.is
+    find_none (takeable l) 16 _ _ c.taken.ensures c.is_none.ensures ∙ at_first 5 9 c.args.q.number (not (any (takeable l) 16)) _ refl refl c.in-5.is
 
 pub returns-in-9 : goal.returns-in-9
 unfolding refuses9
 returns-in-9 c =
     let l = view c.args.l.now in
     let k = arg Tvm c.args.q in
-    ap (λ (x : ℕ). not (ltb x 8)) (c.unused.ensures ∙ ap (λ (x : ℕ). lowest (unused (l.slot x)) 8) (c.requires.value Tvm)) ∙ ap not (lowest-any (unused (l.slot k)) 8)
+    find_none (unused (l.slot k)) 8 _ _ (c.unused.ensures ∙ ap (λ (x : ℕ). found 8 (lowest (unused (l.slot x)) 8)) (c.requires.value Tvm)) c.is_none-in-9.ensures
     ∙ at_second 5 9 c.args.q.number _ (not (any (unused (l.slot k)) 8)) refl refl c.in-9.is
 
 pub returns-in_default : goal.returns-in_default
