@@ -45,7 +45,7 @@ pub fn there(l: &Words, whole: bool, k: u64, v: u64) -> u8
     let mut set: u8 = 0;
     for h in 0..8u8 {
         if is_there(parts::place_of(l, h as u64), whole, k, v) {
-            set = sets::insert(set, usize::from(h));
+            set = sets::insert(set, h as usize);
         }
     }
     set
