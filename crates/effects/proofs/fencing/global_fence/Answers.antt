@@ -1,6 +1,4 @@
-use Prim.Native.Nat.{◌<◌}
 use mathlib.Core.Path.{◌≡◌, ◌∙◌, ap}
-use borrow.Author.Rules.{rules}
 use Rattle.sets.specs.Set.{without, full}
 use Rattle.rules.specs.Fence.{begin, number}
 use Rattle.rules.specs.Ledger.{with_global, others_of}

@@ -1,7 +1,4 @@
-use Prim.Native.Nat.{◌<◌}
 use mathlib.Core.Path.{◌≡◌, ◌∙◌, ap}
-use native.Mathlib.Omega.{arith}
-use borrow.Author.Rules.{rules}
 use Rattle.rules.specs.Fence.{begin, number}
 use Rattle.rules.specs.Ledger.{with_slot, with_fence, insiders_of}
 use Rattle.rules.specs.Encoding.{view, bits}

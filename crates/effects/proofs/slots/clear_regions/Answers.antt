@@ -1,10 +1,8 @@
-use mathlib.Core.Path.{◌≡◌, sym, ◌∙◌}
+use mathlib.Core.Path.{◌≡◌, ◌∙◌}
 use native.Mathlib.Omega.{arith}
-use Rattle.sets.specs.Terms.{put}
-use Rattle.rules.specs.Ledger.{Slot, with_slot, slot}
+use Rattle.rules.specs.Ledger.{with_slot, slot}
 use Rattle.rules.specs.Encoding.{view}
-use Rattle.effects.specs.Parts.{no_region}
-use Rattle.effects.proofs.Puts.{slot_same, slot_again, cleared_to, cleared_none, cleared_next, cleared_all}
+use Rattle.effects.proofs.Puts.{cleared_to, cleared_all}
 use Rattle.effects.proofs.slots.clear_regions.Goals as goal
 
 pub returns : goal.returns
