@@ -4,7 +4,8 @@ ghost use Rattle.tape.specs.Tape.{step_at, after_of, args_at, word, call_of};
 
 use rules::Call;
 
-#[derive(Clone, Copy)]
+// What stands at an offset. The theorems of `specs/Promises.antt` speak of these four cases, so they stay one enum, and not an Option of a Result.
+#[derive(Clone, Copy, Debug, PartialEq, Eq)]
 pub enum Step {
     // Nothing left.
     End,
@@ -44,14 +45,8 @@ pub fn after(step: Step, at: usize) -> usize
     ensures { result ≡ after_of step at }
 {
     match step {
-        Step::Record {
-            call: _,
-            hart: _,
-            next,
-        } => next,
-        Step::End => at,
-        Step::Short => at,
-        Step::Mark => at,
+        Step::Record { next, .. } => next,
+        Step::End | Step::Short | Step::Mark => at,
     }
 }
 
@@ -59,13 +54,8 @@ pub fn after(step: Step, at: usize) -> usize
 pub fn args_at(tape: &[u8], at: usize) -> &[u8]
     ensures { result.now ≡ args_at tape.now at }
 {
-    let Step::Record {
-        call: _,
-        hart: _,
-        next,
-    } = step_at(tape, at)
-    else {
-        return &tape[..0];
+    let Step::Record { next, .. } = step_at(tape, at) else {
+        return &[];
     };
     let start = at + 4;
     &tape[start..next]
