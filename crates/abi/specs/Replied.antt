@@ -1,8 +1,7 @@
 -- The promise of the C entry: that of a call, its answer given by document 01's error and value.
 use Rattle.std.specs.Prelude.{ℕ, ◌≡◌, List}
 use Rattle.rules.specs.declared.Call.{Call}
-use Rattle.rules.specs.declared.Answer.{Answer}
-use Rattle.rules.specs.Step.{error_of, value_of}
+use Rattle.rules.specs.Step.{Answer, error_of, value_of}
 use Rattle.rules.specs.Encoding.{Called}
 use Rattle.abi.specs.declared.Reply.{Reply}
 

@@ -4,9 +4,7 @@ use mathlib.Core.Path.{◌≡◌, refl}
 use mathlib.Core.Bool.{Bool, true, false}
 use mathlib.Core.List.{List, [], ◌∷◌, ◌++◌}
 use Rattle.rules.specs.declared.Call.{Call}
-use Rattle.rules.specs.declared.Answer.{Answer}
-use Rattle.rules.specs.declared.Answer.TheVariants.{Accepted, Refused}
-use Rattle.rules.specs.Step.{step}
+use Rattle.rules.specs.Step.{Answer, Accepted, Refused, step}
 use Rattle.history.specs.Demand3.{nobody, holds, maps, held, hosts, guests, Watch, globally, for_tvm, Turned, later, watch, ended, needs}
 use Rattle.history.proofs.Played.{lent, on, opening, convert, fences, guest, block, opened-all}
 

@@ -15,13 +15,12 @@ use Rattle.sets.proofs.Looks.{any_one, lowest_true}
 use Rattle.sets.proofs.OneOf.{one_off}
 use Rattle.rules.specs.declared.Page.{Page}
 use Rattle.rules.specs.declared.Call.{Call}
-use Rattle.rules.specs.declared.Answer.TheVariants.{Refused}
 use Rattle.rules.specs.declared.Role.TheVariants.{Tvm}
 use Rattle.rules.specs.Page.{guest_page, claims, meant, is_meant}
 use Rattle.rules.specs.Fence.{done}
 use Rattle.rules.specs.Calls.{moves, arg, index, free_spans, size, first_guest}
 use Rattle.rules.specs.Refusals.{early, late, lowest_of, refusal, refuses6, refuses7, any_page, any_guest, the_one, mapped}
-use Rattle.rules.specs.Step.{State, settle, step}
+use Rattle.rules.specs.Step.{Refused, State, settle, step}
 use Rattle.rules.proofs.Exactly.{exactly}
 use Rattle.history.specs.Demand3.{counts_free, needs, not_done}
 use Rattle.history.proofs.Records.{Claim, claim}

@@ -4,8 +4,7 @@ use Prim.Native.Nat.{ℕ}
 use mathlib.Core.Path.{◌≡◌, refl, sym, ◌∙◌, ap, ap₂}
 use mathlib.Core.List.{List, [], ◌∷◌, ◌++◌}
 use Rattle.rules.specs.declared.Call.{Call}
-use Rattle.rules.specs.declared.Answer.{Answer}
-use Rattle.rules.specs.Step.{State, step, run, answers, unopened}
+use Rattle.rules.specs.Step.{Answer, State, step, run, answers, unopened}
 use Rattle.rules.specs.Encoding.{pages_of, state_of}
 use Rattle.rules.proofs.Unique.{zeros-unopened}
 use Rattle.history.specs.OfTheCode.{Ran, none_yet, one_more, OfTheCode}

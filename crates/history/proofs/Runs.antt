@@ -6,12 +6,11 @@ use mathlib.Core.Path.{◌≡◌, refl}
 use mathlib.Core.List.{List, [], ◌∷◌}
 use native.Mathlib.Omega.{arith}
 use Rattle.rules.specs.declared.Call.{Call}
-use Rattle.rules.specs.declared.Answer.TheVariants.{Accepted}
 use Rattle.rules.specs.Page.{Table}
 use Rattle.rules.specs.Ledger.{Ledger}
 use Rattle.rules.specs.Refusals.{refusal, refuses1}
 use Rattle.rules.specs.Effects.{table, ledger, value}
-use Rattle.rules.specs.Step.{State, Outcome, settle, step, run}
+use Rattle.rules.specs.Step.{Accepted, State, Outcome, settle, step, run}
 use Rattle.history.specs.Demand3.{heed, reckon}
 use Rattle.rules.proofs.Accepted.{call, Every, Passed, passed}
 

@@ -9,8 +9,7 @@ use lib.Dec.{eqb}
 use borrow.Author.Tests.{eqb-true, leb-false, not-false}
 use Rattle.rules.specs.declared.Call.{Call}
 use Rattle.rules.specs.Page.{Table}
-use Rattle.rules.specs.Step.{step, unopened}
-use Rattle.rules.specs.declared.Answer.TheVariants.{Accepted}
+use Rattle.rules.specs.Step.{Accepted, step, unopened}
 use Rattle.history.specs.Demand3.{after, heed, Seats, nowhere, seats, seated}
 use Rattle.rules.specs.Ledger.{Ledger, is_open, Hart, outside}
 use Rattle.rules.specs.Effects.{ledger, entered}

@@ -2,13 +2,13 @@
 -- proofs/Demand3.antt proves it. A history is any list of calls, refused ones among them, from a ledger that is not open, on any lent table.
 use Rattle.std.specs.Prelude.{◌≢◌, ℕ, ◌+◌, ◌-◌, ◌≤◌, ◌<◌, ◌≡◌, Bool, true, false, cond, not, ◌&&◌, ◌||◌, List, [], ◌∷◌, ltb, eqb}
 use Rattle.sets.specs.Terms.{any_in, row, within, put}
-use Rattle.rules.specs.declared.{Page.Page, Call.Call, Answer.Answer, Answer.TheVariants.Accepted, Answer.TheVariants.Refused}
+use Rattle.rules.specs.declared.{Page.Page, Call.Call}
 use Rattle.rules.specs.declared.Role.TheVariants.{Tvm, Vcpu, FreeBase, GuestBase, HartCount, PageCount}
 use Rattle.rules.specs.Page.{Table, is_given, claims, is_meant}
 use Rattle.rules.specs.Fence.{Harts, Tracker, someone, done}
 use Rattle.rules.specs.Ledger.{Ledger, Place, inside, outside, is_outside, is_in_slot}
 use Rattle.rules.specs.Calls.{names, arg, size, first_guest, index, free_spans}
-use Rattle.rules.specs.Step.{State, step, run, unopened}
+use Rattle.rules.specs.Step.{Answer, Accepted, Refused, State, step, run, unopened}
 
 -- ---- What is reckoned, from the calls of a history and what each was told
 -- what the calls leave of the ledger and the table

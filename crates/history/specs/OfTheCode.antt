@@ -1,8 +1,8 @@
 -- Demand 3 of the code: what calls of `ledger`'s `call` leave, one after the other, from words that are all 0 and any lent bytes, is what the histories
 -- of Demand3 speak of.
 use Rattle.std.specs.Prelude.{replicate, ℕ, ◌≡◌, List, [], ◌∷◌, ◌++◌}
-use Rattle.rules.specs.declared.{Call.Call, Answer.Answer}
-use Rattle.rules.specs.Step.{answers, unopened}
+use Rattle.rules.specs.declared.Call.{Call}
+use Rattle.rules.specs.Step.{Answer, answers, unopened}
 use Rattle.rules.specs.Encoding.{pages_of, state_of, Called}
 use Rattle.history.specs.Demand3.{after}
 

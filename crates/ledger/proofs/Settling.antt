@@ -4,14 +4,34 @@ use Prim.Native.Nat.{ℕ, zero, suc}
 use mathlib.Core.Path.{◌≡◌, refl, sym, ◌∙◌, ap}
 use mathlib.Core.Bool.{Bool, true, false}
 use mathlib.Core.List.{List, [], ◌∷◌, ◌++◌}
+use native.Mathlib.Omega.{arith}
 use Rattle.rules.specs.Page.{Table}
 use Rattle.rules.specs.Ledger.{Ledger}
 use Rattle.rules.specs.declared.Call.{Call}
-use Rattle.rules.specs.declared.Answer.TheVariants.{Accepted, Refused}
+use Rattle.rules.specs.declared.numbers.Refusal.{Refusal}
+use Rattle.rules.specs.declared.numbers.Refusal.TheVariants.{UnknownCall, NoTvm, WrongPhase, OutOfRange, Address, WrongKind, NotDone, StillAwaited, NoRoom, WrongRegion, AlreadyMapped, Occupied, VersionsSpent, LargeMappingCut, LeftOutside}
 use Rattle.rules.specs.Refusals.{early, late, lowest_of, refusal}
 use Rattle.rules.specs.Effects.{table, ledger, value}
-use Rattle.rules.specs.Step.{Outcome, settle, step}
+use Rattle.rules.specs.Step.{Accepted, Refused, Outcome, settle, step}
+use Rattle.rules.specs.Answers.{number_of}
 use Rattle.ledger.specs.Settled.{state, Settled}
+
+never_0 : (why : Refusal) → number_of why ≡ 0 → ⊥
+never_0 UnknownCall e = absurd (omega arith)
+never_0 NoTvm e = absurd (omega arith)
+never_0 WrongPhase e = absurd (omega arith)
+never_0 OutOfRange e = absurd (omega arith)
+never_0 Address e = absurd (omega arith)
+never_0 WrongKind e = absurd (omega arith)
+never_0 NotDone e = absurd (omega arith)
+never_0 StillAwaited e = absurd (omega arith)
+never_0 NoRoom e = absurd (omega arith)
+never_0 WrongRegion e = absurd (omega arith)
+never_0 AlreadyMapped e = absurd (omega arith)
+never_0 Occupied e = absurd (omega arith)
+never_0 VersionsSpent e = absurd (omega arith)
+never_0 LargeMappingCut e = absurd (omega arith)
+never_0 LeftOutside e = absurd (omega arith)
 
 module _ (l : Ledger) (t : Table) (c : Call) where
   pub accepted : (v : ℕ) (l' : Ledger) (t' : Table) → refusal l t c ≡ 0 → v ≡ value l t c → l' ≡ ledger l t c → t' ≡ table l t c → Settled l t c (Accepted v) l' t'
@@ -24,10 +44,11 @@ module _ (l : Ledger) (t : Table) (c : Call) where
   by_number zero h = absurd (h refl)
   by_number (suc n) h = refl
 
-  pub refused : (n : ℕ) → n ≡ refusal l t c → (n ≡ 0 → ⊥) → Settled l t c (Refused n) l t
+  pub refused : (why : Refusal) → number_of why ≡ refusal l t c → Settled l t c (Refused (number_of why)) l t
   unfolding step
-  refused n e h =
-      let q : settle (refusal l t c) (state l t) c ≡ record { after = state l t; answer = Refused n } = ap (λ (m : ℕ). settle m (state l t) c) (sym e) ∙ by_number n h in
+  refused why e =
+      let n = number_of why in
+      let q : settle (refusal l t c) (state l t) c ≡ record { after = state l t; answer = Refused n } = ap (λ (m : ℕ). settle m (state l t) c) (sym e) ∙ by_number n (never_0 why) in
       record { answer = sym (ap (λ (o : Outcome). o.answer) q); after = sym (ap (λ (o : Outcome). o.after) q) }
 
   -- none of the first five, where none holds

@@ -4,10 +4,9 @@ use Rattle.sets.specs.Terms.{any_in}
 use Rattle.rules.specs.Page.{Table}
 use Rattle.rules.specs.Ledger.{Ledger}
 use Rattle.rules.specs.declared.Call.{Call}
-use Rattle.rules.specs.declared.Answer.{Answer}
 use Rattle.rules.specs.Refusals.{refusal}
 use Rattle.rules.specs.Effects.{value, ledger}
-use Rattle.rules.specs.Step.{State, step}
+use Rattle.rules.specs.Step.{Answer, State, step}
 
 abbrev pub call_with : ℕ → ℕ → ℕ → ℕ → ℕ → ℕ → ℕ → ℕ → Call
 call_with number hart a0 a1 a2 a3 a4 a5 = record { number = number; hart = hart; a0 = a0; a1 = a1; a2 = a2; a3 = a3; a4 = a4; a5 = a5 }

@@ -6,6 +6,7 @@ mod kept;
 mod table;
 
 ghost use Rattle.std.specs.Prelude.{◌≡◌, length};
+ghost use Rattle.rules.specs.Answers.{answer_of};
 ghost use Rattle.rules.specs.Encoding.{view, pages_of, Numbers, Called};
 ghost use Rattle.ledger.specs.Settled.{Settled, call_with};
 
@@ -21,18 +22,14 @@ use words::cells::known;
 
 // Whatever may refuse comes first and writes nothing; then the records, while the ledger is as the call found it; then the ledger.
 fn settle(l: &mut Words, t: &mut [u8], q: Call) -> Answer
-    ensures { Settled (view l.old) (pages_of t.old) q result (view l.new) (pages_of t.new) }
+    ensures { Settled (view l.old) (pages_of t.old) q (answer_of result) (view l.new) (pages_of t.new) }
 {
     let row = row(q.number);
     let a = asked(q, row);
-    let number = refusal(&*l, &*t, q, &a, row);
-    if number == 0 {
-        let pages = sized(q, &a);
-        on_table(&*l, &mut *t, q, &a, pages);
-        Answer::Accepted(on_ledger(l, q, &a, pages))
-    } else {
-        Answer::Refused(number)
-    }
+    refusal(&*l, &*t, q, &a, row)?;
+    let pages = sized(q, &a);
+    on_table(&*l, &mut *t, q, &a, pages);
+    Ok(on_ledger(l, q, &a, pages))
 }
 
 fn size(t: &[u8]) -> usize
@@ -61,7 +58,7 @@ pub fn call(
     a4: u64,
     a5: u64,
 ) -> Answer
-    ensures { Called ledger.old table.old (call_with number hart a0 a1 a2 a3 a4 a5) result ledger.new table.new }
+    ensures { Called ledger.old table.old (call_with number hart a0 a1 a2 a3 a4 a5) (answer_of result) ledger.new table.new }
 {
     let q = Call {
         number,

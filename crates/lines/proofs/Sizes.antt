@@ -9,9 +9,7 @@ use lib.IntN.{ℤ, pos}
 use lib.ListN.{length, get_or, length-append}
 use borrow.Author.Tests.{leb-true}
 use Rattle.sets.proofs.Bools.{and_left, and_right}
-use Rattle.rules.specs.declared.Answer.{Answer}
-use Rattle.rules.specs.declared.Answer.TheVariants.{Accepted, Refused}
-use Rattle.rules.specs.Step.{errors, error_of, value_of}
+use Rattle.rules.specs.Step.{Answer, Accepted, Refused, errors, error_of, value_of}
 use Rattle.tape.specs.declared.record.Step.{Step}
 use Rattle.tape.specs.declared.record.Step.TheVariants.{End, Short, Mark, Record}
 use Rattle.lines.specs.Text.{digits, decimal, signed, blank, newline}

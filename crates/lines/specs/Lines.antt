@@ -1,8 +1,7 @@
 -- Document 01, "The tape and its printer": what the program prints, from the bytes of a tape. Assumes nothing.
 use Rattle.std.specs.Prelude.{ℤ, replicate, take, ℕ, suc, ◌*◌, ◌≡◌, cond, List, [], ◌∷◌, ◌++◌, ltb, leb, length, drop}
 use Rattle.rules.specs.declared.Call.{Call}
-use Rattle.rules.specs.declared.Answer.{Answer}
-use Rattle.rules.specs.Step.{State, error_of, value_of, unopened, answers}
+use Rattle.rules.specs.Step.{Answer, State, error_of, value_of, unopened, answers}
 use Rattle.rules.specs.Encoding.{pages_of}
 use Rattle.tape.specs.declared.record.Step.{Step}
 use Rattle.tape.specs.declared.record.Step.TheVariants.{End, Short, Mark, Record}

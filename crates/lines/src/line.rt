@@ -1,5 +1,6 @@
 // The lines of document 01.
 ghost use Rattle.std.specs.Prelude.{◌≡◌, ◌+◌, ◌^◌, ◌<◌, ◌≤◌, length, ◌++◌};
+ghost use Rattle.rules.specs.Answers.{answer_of};
 ghost use Rattle.lines.specs.declared.text.TheConstants.{ROOM};
 ghost use Rattle.lines.specs.Text.{decimal as text_decimal, blank};
 ghost use Rattle.lines.specs.Lines.{told as lines_told, line as lines_line, noted as lines_noted, bad as lines_bad};
@@ -33,7 +34,7 @@ impl Text {
     // "number from 1, call, error, value, single blanks": with no more than 4 and 3 digits before them, 33 bytes at most.
     pub fn line(&mut self, number: u64, call: u64, answer: Answer)
         requires { (length self.old + 33 ≤ ROOM) × (number < 10 ^ 4) × (call < 10 ^ 3) }
-        ensures { (self.new ≡ self.old ++ lines_line number call answer) × (length self.new ≤ length self.old + 33) }
+        ensures { (self.new ≡ self.old ++ lines_line number call (answer_of answer)) × (length self.new ≤ length self.old + 33) }
     {
         let error = error_of(answer);
         let value = value_of(answer);

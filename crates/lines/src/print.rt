@@ -1,5 +1,6 @@
 // What the program prints of a tape: a line for each record, in a lent buffer.
 ghost use Rattle.std.specs.Prelude.{◌≡◌, ◌≤◌, length};
+ghost use Rattle.rules.specs.Answers.{answer_of};
 ghost use Rattle.rules.specs.Encoding.{Called, state_of};
 ghost use Rattle.tape.specs.Tape.{call_of, reading};
 ghost use Rattle.lines.specs.Lines.{zeros, lines_from, printed as lines_printed, Printed, handed as lines_handed};
@@ -12,7 +13,7 @@ use words::Words;
 
 // What a record is answered.
 fn answered(taken: Taken<'_>, ledger: &mut Words, table: &mut [u8]) -> Answer
-    ensures { Called ledger.old table.old (call_of taken.entry.call taken.entry.hart taken.entry.args.now) result ledger.new table.new }
+    ensures { Called ledger.old table.old (call_of taken.entry.call taken.entry.hart taken.entry.args.now) (answer_of result) ledger.new table.new }
 {
     let c = call_of(taken.call, taken.hart, taken.args);
     ledger::call(

@@ -1,4 +1,4 @@
-// The refusals, 1 to 15, by `&` only: `refusal` gives the lowest that holds, 0 where none does.
+// The refusals, 1 to 15, by `&` only: `refusal` gives the lowest that holds, and is `Ok` where none does.
 
 #![tactic(auto)]
 

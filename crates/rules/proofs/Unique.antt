@@ -1,10 +1,10 @@
--- The encoding loses nothing, and so the promise of a call leaves one answer, one list of words and one list of bytes.
+-- The encoding loses nothing, and so the promise of a call leaves one answer, one list of words and one list of bytes; and one result of the code.
 -- Assumes nothing.
 use Prim.Native.Nat.{ℕ, zero, suc, ◌+◌, ◌-◌, ◌*◌, ◌/◌, ◌%◌, ◌^◌, ◌<◌}
 use mathlib.Core.Path.{◌≡◌, refl, sym, ◌∙◌, ap, fun_ext}
 use mathlib.Core.Bool.{Bool, true, false, cond}
 use mathlib.Core.Option.{Option, none, some}
-use mathlib.Core.List.{List}
+use mathlib.Core.List.{List, [], ◌∷◌}
 use native.Mathlib.Omega.{arith}
 use native.Mathlib.Decide.{dec_lt}
 use native.Mathlib.Nat.{div-add-mod', div-div-eq-div-mul}
@@ -12,14 +12,16 @@ use lib.Dec.{ltb, eqb}
 use lib.ListN.{length, get_or, replicate}
 use lib.Seq.{ext_get_or}
 use borrow.Author.Tests.{eqb-true, eqb-false, lt-ltb}
+use Rattle.std.specs.Prelude.{Result, Ok, Err}
 use Rattle.sets.proofs.Bools.{by_test}
 use Rattle.sets.proofs.Laws.{ext, member_none}
 use Rattle.rules.specs.Page.{Page, Table}
 use Rattle.rules.specs.Fence.{Tracker}
 use Rattle.rules.specs.Ledger.{Ledger, Place, inside, outside, start, bare, opened}
-use Rattle.rules.specs.Step.{State}
+use Rattle.rules.specs.Step.{Answer, Accepted, Refused, State}
+use Rattle.rules.specs.Answers.{Refusal, UnknownCall, NoTvm, WrongPhase, OutOfRange, Address, WrongKind, NotDone, StillAwaited, NoRoom, WrongRegion, AlreadyMapped, Occupied, VersionsSpent, LargeMappingCut, LeftOutside, number_of, answer_of}
 use Rattle.rules.specs.Encoding.{read, part, cell, bits, tracker_of, upper, place_of, mark_of, view_of, page_at, pages_of, state_of}
-use Rattle.rules.specs.Promises.{WordsKept, BytesKept, OnlyOne, RefusedWritesNothing, OthersKept, ZerosUnopened}
+use Rattle.rules.specs.Promises.{WordsKept, BytesKept, OnlyOne, AnswersKept, OneResult, RefusedWritesNothing, OthersKept, ZerosUnopened}
 use Rattle.rules.proofs.Refused.{refused_changes_nothing, unwritten}
 
 -- ---- one word
@@ -201,6 +203,45 @@ only_one ws b c x y ws₁ ws₂ b₁ b₂ p q =
       words_kept ws₁ ws₂ p.words q.words (ap (λ (s : State). s.ledger) e),
       bytes_kept (length b) (length b) b₁ b₂ p.bytes q.bytes (ap (λ (s : State). s.table) e),
     )
+
+-- ---- a result of the code, back from the answer that it stands for
+refusal_of : ℕ → Refusal
+refusal_of n = get_or (UnknownCall ∷ UnknownCall ∷ NoTvm ∷ WrongPhase ∷ OutOfRange ∷ Address ∷ WrongKind ∷ NotDone ∷ StillAwaited ∷ NoRoom ∷ WrongRegion ∷ AlreadyMapped ∷ Occupied ∷ VersionsSpent ∷ LargeMappingCut ∷ LeftOutside ∷ []) n UnknownCall
+
+refusal_back : (r : Refusal) → refusal_of (number_of r) ≡ r
+unfolding refusal_of
+refusal_back UnknownCall = refl
+refusal_back NoTvm = refl
+refusal_back WrongPhase = refl
+refusal_back OutOfRange = refl
+refusal_back Address = refl
+refusal_back WrongKind = refl
+refusal_back NotDone = refl
+refusal_back StillAwaited = refl
+refusal_back NoRoom = refl
+refusal_back WrongRegion = refl
+refusal_back AlreadyMapped = refl
+refusal_back Occupied = refl
+refusal_back VersionsSpent = refl
+refusal_back LargeMappingCut = refl
+refusal_back LeftOutside = refl
+
+result_of : Answer → Result ℕ Refusal
+result_of (Accepted v) = Ok v
+result_of (Refused n) = Err (refusal_of n)
+
+result_back : (x : Result ℕ Refusal) → result_of (answer_of x) ≡ x
+unfolding result_of
+result_back (Ok v) = refl
+result_back (Err r) = ap (λ (s : Refusal). Err s) (refusal_back r)
+
+pub answers_kept : AnswersKept
+answers_kept x y e = sym (result_back x) ∙ ap result_of e ∙ result_back y
+
+pub one_result : OneResult
+one_result ws b c x y ws₁ ws₂ b₁ b₂ p q =
+    let (a, w, t) = only_one ws b c (answer_of x) (answer_of y) ws₁ ws₂ b₁ b₂ p q in
+    (answers_kept x y a, w, t)
 
 pub refused_writes_nothing : RefusedWritesNothing
 refused_writes_nothing ws b c n ws' b' nw nb p =

@@ -5,6 +5,7 @@ pub mod Calls
 pub mod Refusals
 pub mod Effects
 pub mod Step
+pub mod Answers
 pub mod Tables
 pub mod Encoding
 pub mod Seatings

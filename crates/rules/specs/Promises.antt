@@ -1,11 +1,12 @@
 -- What is proved of the definitions, as statements. The words quoted are those of the three demands.
-use Rattle.std.specs.Prelude.{◌↔◌, replicate, ℕ, ◌+◌, ◌*◌, ◌≤◌, ◌<◌, ◌^◌, ◌≡◌, Bool, true, false, List, [], ◌∷◌, map, length, get_or}
+use Rattle.std.specs.Prelude.{◌↔◌, replicate, ℕ, ◌+◌, ◌*◌, ◌≤◌, ◌<◌, ◌^◌, ◌≡◌, Bool, true, false, List, [], ◌∷◌, map, length, get_or, Result}
 use Rattle.rules.specs.Page.{Table}
 use Rattle.rules.specs.Ledger.{Ledger, opened}
 use Rattle.rules.specs.Calls.{Call}
 use Rattle.rules.specs.Refusals.{refuses1, refuses2, refuses3, refuses4, refuses5, refuses6, refuses7, refuses8, refuses9, refuses10, refuses11, refuses12, refuses13, refuses14, refuses15}
 use Rattle.rules.specs.Effects.{value, writes}
 use Rattle.rules.specs.Step.{Answer, Accepted, Refused, State, step}
+use Rattle.rules.specs.Answers.{Refusal, answer_of}
 use Rattle.rules.specs.Encoding.{view, pages_of, Numbers, Called}
 use Rattle.rules.specs.Seatings.{seatings, played, wanted}
 
@@ -53,6 +54,15 @@ abbrev pub OnlyOne : Type 0
 OnlyOne =
     (ws b : List ℕ) (c : Call) (x y : Answer) (ws₁ ws₂ b₁ b₂ : List ℕ) → Called ws b c x ws₁ b₁ → Called ws b c y ws₂ b₂
     → (x ≡ y) × (ws₁ ≡ ws₂) × (b₁ ≡ b₂)
+
+-- The code answers a result, which stands for one answer. No two stand for the same, so the promise leaves one result too
+abbrev pub AnswersKept : Type 0
+AnswersKept = (x y : Result ℕ Refusal) → answer_of x ≡ answer_of y → x ≡ y
+
+abbrev pub OneResult : Type 0
+OneResult =
+    (ws b : List ℕ) (c : Call) (x y : Result ℕ Refusal) (ws₁ ws₂ b₁ b₂ : List ℕ)
+    → Called ws b c (answer_of x) ws₁ b₁ → Called ws b c (answer_of y) ws₂ b₂ → (x ≡ y) × (ws₁ ≡ ws₂) × (b₁ ≡ b₂)
 
 -- Document 01's seatings S1 to S8 and S13 to S16, and S10 and S11, as a single table under a single statement
 abbrev pub Seated : Type 0

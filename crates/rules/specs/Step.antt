@@ -5,8 +5,11 @@ use Rattle.rules.specs.Ledger.{Ledger, opened}
 use Rattle.rules.specs.Calls.{Call}
 use Rattle.rules.specs.Refusals.{refusal}
 use Rattle.rules.specs.Effects.{table, ledger, value}
-pub use Rattle.rules.specs.declared.Answer.{Answer}
-pub use Rattle.rules.specs.declared.Answer.TheVariants.{Accepted, Refused}
+
+-- an accepted call's value, or the number of the refusal
+pub data Answer : Type 0 where
+  Accepted : ℕ → Answer
+  Refused : ℕ → Answer
 
 -- "The error is looked up from the number": 0 for an accepted call, then those of refusals 1 to 15, negative
 abbrev pub errors : List ℤ

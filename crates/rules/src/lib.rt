@@ -5,6 +5,8 @@
 pub mod numbers;
 pub mod tables;
 
+use numbers::Refusal;
+
 #[derive(Clone, Copy)]
 pub struct Call {
     pub number: u64,
@@ -34,12 +36,8 @@ pub enum Role {
     PageCount = 11,
 }
 
-// An accepted call's value, or the number of the refusal.
-#[derive(Clone, Copy)]
-pub enum Answer {
-    Accepted(u64),
-    Refused(u64),
-}
+// An accepted call's value, or why it is refused.
+pub type Answer = Result<u64, Refusal>;
 
 #[derive(Clone, Copy)]
 pub struct Page {

@@ -1,5 +1,7 @@
 // What document 01 tells apart by number: kinds of pages, phases of a TVM, calls and refusals. A number that a host, a word or a byte holds may be none
 // of these, so the lent words and bytes, and a call as it is asked, keep their numbers.
+ghost use Rattle.std.specs.Prelude.{◌≡◌};
+ghost use Rattle.rules.specs.Answers.{number_of};
 
 // The kind of a page record.
 #[derive(Clone, Copy, PartialEq, Eq)]
@@ -65,4 +67,13 @@ pub enum Refusal {
     VersionsSpent = 13,
     LargeMappingCut = 14,
     LeftOutside = 15,
+}
+
+impl Refusal {
+    // Its number in the table of refusals.
+    pub fn number(self) -> u64
+        ensures { result ≡ number_of self }
+    {
+        self as u64
+    }
 }

@@ -1,7 +1,8 @@
 // The constant tables of document 01: from refusal number to SBI error, and beside it what each call names and in which phases it is lawful.
 ghost use Rattle.std.specs.Prelude.{◌≡◌, ◌<◌, eqb};
 ghost use Rattle.rules.specs.Calls.{allows, entry_of};
-ghost use Rattle.rules.specs.Step.{error_of, value_of};
+ghost use Rattle.rules.specs.Step.{Refused, error_of, value_of};
+ghost use Rattle.rules.specs.Answers.{answer_of};
 ghost use Rattle.rules.specs.Tables.{role_at, call_digit, row_of};
 
 use super::Answer;
@@ -66,7 +67,7 @@ const CALLS: [u32; 34] = [
 ];
 
 pub fn error_at(number: u64) -> i64
-    ensures { result ≡ error_of (Answer.Refused number) }
+    ensures { result ≡ error_of (Refused number) }
 {
     if number < 16 {
         ERRORS[number as usize]
@@ -76,20 +77,20 @@ pub fn error_at(number: u64) -> i64
 }
 
 pub fn error_of(answer: Answer) -> i64
-    ensures { result ≡ error_of answer }
+    ensures { result ≡ error_of (answer_of answer) }
 {
     match answer {
-        Answer::Accepted(_) => 0,
-        Answer::Refused(number) => error_at(number),
+        Ok(_) => 0,
+        Err(why) => error_at(why.number()),
     }
 }
 
 pub fn value_of(answer: Answer) -> u64
-    ensures { result ≡ value_of answer }
+    ensures { result ≡ value_of (answer_of answer) }
 {
     match answer {
-        Answer::Accepted(value) => value,
-        Answer::Refused(number) => number,
+        Ok(value) => value,
+        Err(why) => why.number(),
     }
 }
 
