@@ -1,6 +1,4 @@
-pub mod Writes
 pub mod Decimals
-pub mod Signs
 pub mod Sizes
 pub mod Printing
 pub mod Starts

@@ -1,8 +1,8 @@
 -- How long a line is: no more than 33 bytes. Assumes nothing.
-use Prim.Native.Nat.{ℕ, zero, suc, ◌^◌, ◌<◌, ◌≤◌}
-use mathlib.Core.Path.{◌≡◌, refl}
+use Prim.Native.Nat.{ℕ, ◌+◌, zero, suc, ◌^◌, ◌<◌, ◌≤◌}
+use mathlib.Core.Path.{◌≡◌, refl, ap}
 use mathlib.Core.Bool.{Bool, true, ◌&&◌}
-use mathlib.Core.List.{List, [], ◌∷◌, ◌++◌}
+use mathlib.Core.List.{List, [], ◌∷◌, ◌++◌, append_assoc}
 use native.Mathlib.Omega.{arith}
 use lib.Dec.{leb}
 use lib.IntN.{ℤ, pos}
@@ -38,21 +38,16 @@ told-size a h =
     let v = decimal (value_of a) in
     omega (arith, error-size a, at_most 19 (value_of a) h, length-append e blank, length-append (e ++ blank) v, length-append (e ++ blank ++ v) newline)
 
-pub line-size : (number call : ℕ) (a : Answer) → number < 10 ^ 4 → call < 10 ^ 3 → value_of a < 10 ^ 20 → length (line number call a) ≤ 33
+-- a line by its fields
+pub line_parts : (number call : ℕ) (a : Answer)
+    → line number call a ≡ decimal number ++ blank ++ (decimal call ++ blank) ++ told (error_of a) (value_of a)
 unfolding line
-line-size number call a h k l =
-    let n = decimal number in
-    let c = decimal call in
-    omega (
-      arith,
-      at_most 3 number h,
-      at_most 2 call k,
-      told-size a l,
-      length-append n blank,
-      length-append (n ++ blank) c,
-      length-append (n ++ blank ++ c) blank,
-      length-append (n ++ blank ++ c ++ blank) (told (error_of a) (value_of a)),
-    )
+line_parts number call a = ap (λ (l : List ℕ). l ++ told (error_of a) (value_of a)) (append_assoc (decimal number ++ blank) (decimal call) blank)
+
+pub parts-size : (number call : ℕ) (a : Answer) → number < 10 ^ 4 → call < 10 ^ 3 → value_of a < 10 ^ 20
+    → length (decimal number ++ blank) + length (decimal call ++ blank) + length (told (error_of a) (value_of a)) ≤ 33
+parts-size number call a h k l =
+    omega (arith, at_most 3 number h, at_most 2 call k, told-size a l, length-append (decimal number) blank, length-append (decimal call) blank)
 
 noted-size : (number : ℕ) (w : List ℕ) → number < 10 ^ 4 → length w ≤ 5 → length (noted number w) ≤ 33
 noted-size number w h l =

@@ -17,10 +17,6 @@ use Rattle.tape.proofs.Steps.{none_left}
 use Rattle.lines.specs.Text.{newline}
 use Rattle.lines.specs.Lines.{handed, zeros, start, lines_from, long, printed}
 
-pub length-zeros : (n : ℕ) → length (zeros n) ≡ n
-unfolding zeros
-length-zeros n = length-replicate n 0
-
 -- the front of zero bytes
 take-replicate : (n m : ℕ) → n ≤ m → take {A = ℕ} n (replicate m 0) ≡ replicate n 0
 take-replicate zero m h = refl

@@ -1,4 +1,4 @@
-// What the program prints, as bytes in a lent buffer. `text` has numbers and words, `line` the lines of document 01, `print` all of them.
+// What the program prints, as bytes. `text` has numbers and words, `line` the lines of document 01, `print` all of them, in a lent buffer.
 
 #![tactic(auto)]
 

@@ -1,70 +1,67 @@
 // The lines of document 01.
-ghost use Rattle.std.specs.Prelude.{◌+◌, ◌^◌, ◌<◌, ◌≤◌, length, ◌++◌};
+ghost use Rattle.std.specs.Prelude.{◌≡◌, ◌+◌, ◌^◌, ◌<◌, ◌≤◌, length, ◌++◌};
 ghost use Rattle.rules.specs.Answers.{answer_of};
-ghost use Rattle.lines.specs.Text.{Written, blank};
-ghost use Rattle.lines.specs.Text.{decimal as text_decimal};
+ghost use Rattle.lines.specs.declared.text.TheConstants.{ROOM};
+ghost use Rattle.lines.specs.Text.{decimal as text_decimal, blank};
 ghost use Rattle.lines.specs.Lines.{told as lines_told, line as lines_line, noted as lines_noted, bad as lines_bad};
 
-use super::text::{decimal, put, signed, word};
+use super::text::Text;
 use rules::Answer;
 use rules::tables::{error_of, value_of};
 use tape::record::Step;
 
-// A number and a blank.
-fn field(out: &mut [u8], at: usize, n: u64) -> usize
-    requires { at + length (text_decimal n ++ blank) ≤ length out.old }
-    ensures { Written (text_decimal n ++ blank) out.old at result out.new }
-{
-    let end = decimal(out, at, n);
-    put(out, end, b' ')
-}
+impl Text {
+    // A number and a blank.
+    fn field(&mut self, n: u64)
+        requires { length self.old + length (text_decimal n ++ blank) ≤ ROOM }
+        ensures { self.new ≡ self.old ++ (text_decimal n ++ blank) }
+    {
+        self.decimal(n);
+        self.put(b' ');
+    }
 
-// The error and the value, to the line's end.
-fn told(out: &mut [u8], at: usize, error: i64, value: u64) -> usize
-    requires { at + length (lines_told error value) ≤ length out.old }
-    ensures { Written (lines_told error value) out.old at result out.new }
-{
-    let error_end = signed(out, at, error);
-    let blank_end = put(out, error_end, b' ');
-    let value_end = decimal(out, blank_end, value);
-    put(out, value_end, b'\n')
-}
+    // The error and the value, to the line's end.
+    fn told(&mut self, error: i64, value: u64)
+        requires { length self.old + length (lines_told error value) ≤ ROOM }
+        ensures { self.new ≡ self.old ++ lines_told error value }
+    {
+        self.signed(error);
+        self.put(b' ');
+        self.decimal(value);
+        self.put(b'\n');
+    }
 
-// "number from 1, call, error, value, single blanks": with no more than 4 and 3 digits before them, 33 bytes at most.
-pub fn line(out: &mut [u8], at: usize, number: u64, call: u64, answer: Answer) -> usize
-    requires { (at + 33 ≤ length out.old) × (number < 10 ^ 4) × (call < 10 ^ 3) }
-    ensures { Written (lines_line number call (answer_of answer)) out.old at result out.new × (result ≤ at + 33) }
-{
-    let error = error_of(answer);
-    let value = value_of(answer);
-    let number_end = field(out, at, number);
-    let call_end = field(out, number_end, call);
-    told(out, call_end, error, value)
-}
+    // "number from 1, call, error, value, single blanks": with no more than 4 and 3 digits before them, 33 bytes at most.
+    pub fn line(&mut self, number: u64, call: u64, answer: Answer)
+        requires { (length self.old + 33 ≤ ROOM) × (number < 10 ^ 4) × (call < 10 ^ 3) }
+        ensures { (self.new ≡ self.old ++ lines_line number call (answer_of answer)) × (length self.new ≤ length self.old + 33) }
+    {
+        let error = error_of(answer);
+        let value = value_of(answer);
+        self.field(number);
+        self.field(call);
+        self.told(error, value);
+    }
 
-// A number and a word, as a line.
-fn noted(out: &mut [u8], at: usize, number: u64, w: &[u8]) -> usize
-    requires { at + length (lines_noted number w.now) ≤ length out.old }
-    ensures { Written (lines_noted number w.now) out.old at result out.new }
-{
-    let number_end = field(out, at, number);
-    let word_end = word(out, number_end, w);
-    put(out, word_end, b'\n')
-}
+    // A number and a word, as a line.
+    fn noted(&mut self, number: u64, word: &[u8])
+        requires { length self.old + length (lines_noted number word.now) ≤ ROOM }
+        ensures { self.new ≡ self.old ++ lines_noted number word.now }
+    {
+        self.field(number);
+        self.word(word);
+        self.put(b'\n');
+    }
 
-// "A bad record prints its number and `short` or `mark`"; where the tape ends there is none.
-pub fn bad(out: &mut [u8], at: usize, number: u64, step: Step) -> usize
-    requires { at + length (lines_bad number step) ≤ length out.old }
-    ensures { Written (lines_bad number step) out.old at result out.new }
-{
-    match step {
-        Step::Short => noted(out, at, number, b"short"),
-        Step::Mark => noted(out, at, number, b"mark"),
-        Step::End => at,
-        Step::Record {
-            call: _,
-            hart: _,
-            next: _,
-        } => at,
+    // "A bad record prints its number and `short` or `mark`"; where the tape ends there is none.
+    pub fn bad(&mut self, number: u64, step: Step)
+        requires { length self.old + length (lines_bad number step) ≤ ROOM }
+        ensures { self.new ≡ self.old ++ lines_bad number step }
+    {
+        match step {
+            Step::Short => self.noted(number, b"short"),
+            Step::Mark => self.noted(number, b"mark"),
+            Step::End | Step::Record { .. } => {}
+        }
     }
 }

@@ -2,60 +2,40 @@
 ghost use Rattle.std.specs.Prelude.{◌≡◌, ◌≤◌, length};
 ghost use Rattle.rules.specs.Answers.{answer_of};
 ghost use Rattle.rules.specs.Encoding.{Called, state_of};
-ghost use Rattle.tape.specs.Tape.{args_at, call_of, reading};
-ghost use Rattle.lines.specs.Text.{Written};
-ghost use Rattle.lines.specs.Lines.{zeros, lines_from, Printed, handed as lines_handed};
+ghost use Rattle.tape.specs.Tape.{call_of, reading};
+ghost use Rattle.lines.specs.Lines.{zeros, lines_from, printed as lines_printed, Printed, handed as lines_handed};
 
-use super::line::{bad, line};
-use super::text::{put, word};
+use super::text::Text;
 use rules::Answer;
-use tape::reader::read_at;
-use tape::record::{Step, arg, args_at, call_of};
+use tape::reader::{Reader, Taken};
+use tape::record::{arg, args_at, call_of};
 use words::Words;
 
-// What the record at an offset is answered.
-fn answered(
-    tape: &[u8],
-    at: usize,
-    call: u8,
-    hart: u8,
-    ledger: &mut Words,
-    table: &mut [u8],
-) -> Answer
-    ensures { Called ledger.old table.old (call_of call hart (args_at tape.now at)) (answer_of result) ledger.new table.new }
+// What a record is answered.
+fn answered(taken: Taken<'_>, ledger: &mut Words, table: &mut [u8]) -> Answer
+    ensures { Called ledger.old table.old (call_of taken.entry.call taken.entry.hart taken.entry.args.now) (answer_of result) ledger.new table.new }
 {
-    let c = call_of(call, hart, args_at(tape, at));
+    let c = call_of(taken.call, taken.hart, taken.args);
     ledger::call(
         ledger, table, c.number, c.hart, c.a0, c.a1, c.a2, c.a3, c.a4, c.a5,
     )
 }
 
 // The lines of all records, and of a bad one: each call on what the last left.
-fn lines(tape: &[u8], ledger: &mut Words, table: &mut [u8], out: &mut [u8]) -> usize
-    requires { (length tape.now ≤ 65536) × (41613 ≤ length out.old) }
-    ensures { Written (lines_from 1 (state_of ledger.old table.old) (reading tape.now)) out.old 0 result out.new
-        × (result ≤ length out.old) }
+fn lines(tape: &[u8], ledger: &mut Words, table: &mut [u8]) -> Text
+    requires { length tape.now ≤ 65536 }
+    ensures { result ≡ lines_from 1 (state_of ledger.old table.old) (reading tape.now) }
 {
-    let mut number: u64 = 1;
-    let mut at = 0;
-    let mut end = 0;
-    while at < tape.len() {
-        let went = read_at(tape, at);
-        let step = went.step;
-        let Step::Record {
-            call,
-            hart,
-            next: _,
-        } = step
-        else {
-            return bad(out, end, number, step);
-        };
-        let answer = answered(tape, at, call, hart, ledger, table);
-        end = line(out, end, number, call as u64, answer);
+    let mut text = Text::new();
+    let mut reader = Reader { tape, at: 0 };
+    let mut number = 1;
+    while let Some(taken) = reader.next() {
+        let answer = answered(taken, ledger, table);
+        text.line(number, u64::from(taken.call), answer);
         number += 1;
-        at = went.at;
     }
-    end
+    text.bad(number, reader.step());
+    text
 }
 
 // "as many as the first record's a1 (0 if above 4,096)"
@@ -73,16 +53,27 @@ fn blank_table() -> [u8; 32768]
     [0; 32768]
 }
 
-// 1,260 records fit a tape, and with a bad one there are 1,261 lines, each of 33 bytes at most.
-pub fn print(tape: &[u8], out: &mut [u8; 41613]) -> usize
-    ensures { Printed tape.now out.old result out.new }
+// All that is printed of a tape.
+fn printed(tape: &[u8]) -> Text
+    ensures { result ≡ lines_printed tape.now }
 {
     if 65536 < tape.len() {
-        let end = word(out, 0, b"long");
-        return put(out, end, b'\n');
+        let mut text = Text::new();
+        text.word(b"long\n");
+        return text;
     }
     let mut ledger = [0u32; words::SIZE];
     let mut table = blank_table();
     let end = 8 * handed(tape);
-    lines(tape, &mut ledger, &mut table[..end], out)
+    lines(tape, &mut ledger, &mut table[..end])
+}
+
+// Copies the text into the lent buffer, and answers how long it is.
+pub fn print(tape: &[u8], out: &mut [u8; 41613]) -> usize
+    ensures { Printed tape.now out.old result out.new }
+{
+    let text = printed(tape);
+    let bytes = text.as_bytes();
+    out[..bytes.len()].copy_from_slice(bytes);
+    bytes.len()
 }

@@ -1,63 +1,81 @@
-// Text into lent bytes, from an offset on. Each function answers the offset after what it wrote.
-ghost use Rattle.std.specs.Prelude.{◌≡◌, [], ◌∷◌, ◌+◌, ◌%◌, ◌≤◌, ◌<◌, nat_abs, length};
-ghost use Rattle.lines.specs.Text.{decimal as text_decimal, signed as text_signed, Written};
+// The text that is printed: bytes in a fixed buffer, to whose end numbers and words are put. There is no heap, and printing can't fail: so no `Vec`
+// or `String`, which can run out of memory, and no `write!` for the digits, which answers a `Result`.
+ghost use Rattle.std.specs.Prelude.{◌≡◌, List, ℕ, [], ◌∷◌, ◌++◌, ◌+◌, ◌%◌, ◌≤◌, ◌<◌, nat_abs, length, take};
+ghost use Rattle.lines.specs.declared.text.TheConstants.{ROOM};
+ghost use Rattle.lines.specs.Text.{decimal as text_decimal, signed as text_signed};
 
-pub fn put(out: &mut [u8], at: usize, b: u8) -> usize
-    requires { at < length out.old }
-    ensures { Written (b ∷ []) out.old at result out.new }
-{
-    out[at] = b;
-    at + 1
+use std::marker::Model;
+
+// Room for all: 1,260 records fit a tape, and with a bad one there are 1,261 lines, each of 33 bytes at most.
+pub const ROOM: usize = 41613;
+
+#[derive(Drop)]
+pub struct Text {
+    bytes: [u8; ROOM],
+    end: usize,
 }
 
-// The ASCII digit of the ones of n.
-fn ones(n: u64) -> u8
-    ensures { result ≡ 48 + n % 10 }
-{
-    (48 + n % 10) as u8
+// A contract sees the bytes that were put, in order.
+impl Model for Text {
+    ghost Value = { List ℕ };
+
+    ghost view = { λ t. take t.end t.bytes };
+
+    ghost invariant = { λ t. t.end ≤ ROOM };
 }
 
-// All but the ones first.
-pub fn decimal(out: &mut [u8], at: usize, n: u64) -> usize
-    requires { at + length (text_decimal n) ≤ length out.old }
-    ensures { Written (text_decimal n) out.old at result out.new }
-{
-    if n < 10 {
-        put(out, at, ones(n))
-    } else {
-        let end = decimal(out, at, n / 10);
-        put(out, end, ones(n))
+impl Text {
+    pub fn new() -> Self
+        ensures { result ≡ [] }
+    {
+        Text {
+            bytes: [0; ROOM],
+            end: 0,
+        }
     }
-}
 
-// How far a number is from 0: a negative one is reckoned from -1, so that no sum wraps.
-fn size(n: i64) -> u64
-    ensures { result ≡ nat_abs n }
-{
-    if n < 0 { (-1 - n) as u64 + 1 } else { n as u64 }
-}
-
-pub fn signed(out: &mut [u8], at: usize, n: i64) -> usize
-    requires { at + length (text_signed n) ≤ length out.old }
-    ensures { Written (text_signed n) out.old at result out.new }
-{
-    if n < 0 {
-        let end = put(out, at, b'-');
-        decimal(out, end, size(n))
-    } else {
-        decimal(out, at, size(n))
+    pub fn as_bytes(&self) -> &[u8]
+        ensures { (result.now ≡ self.now) × (length self.now ≤ ROOM) }
+    {
+        &self.bytes[..self.end]
     }
-}
 
-// The bytes of a word.
-pub fn word(out: &mut [u8], at: usize, w: &[u8]) -> usize
-    requires { at + length w.now ≤ length out.old }
-    ensures { Written w.now out.old at result out.new }
-{
-    let mut i = 0;
-    while i < w.len() {
-        out[at + i] = w[i];
-        i += 1;
+    pub fn put(&mut self, byte: u8)
+        requires { length self.old < ROOM }
+        ensures { self.new ≡ self.old ++ byte ∷ [] }
+    {
+        self.bytes[self.end] = byte;
+        self.end += 1;
     }
-    at + i
+
+    // The bytes of a word.
+    pub fn word(&mut self, word: &[u8])
+        requires { length self.old + length word.now ≤ ROOM }
+        ensures { self.new ≡ self.old ++ word.now }
+    {
+        let end = self.end + word.len();
+        self.bytes[self.end..end].copy_from_slice(word);
+        self.end = end;
+    }
+
+    // All but the ones first.
+    pub fn decimal(&mut self, n: u64)
+        requires { length self.old + length (text_decimal n) ≤ ROOM }
+        ensures { self.new ≡ self.old ++ text_decimal n }
+    {
+        if 10 <= n {
+            self.decimal(n / 10);
+        }
+        self.put(b'0' + (n % 10) as u8);
+    }
+
+    pub fn signed(&mut self, n: i64)
+        requires { length self.old + length (text_signed n) ≤ ROOM }
+        ensures { self.new ≡ self.old ++ text_signed n }
+    {
+        if n < 0 {
+            self.put(b'-');
+        }
+        self.decimal(n.unsigned_abs());
+    }
 }

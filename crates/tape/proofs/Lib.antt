@@ -2,3 +2,4 @@ pub mod Little
 pub mod Steps
 pub mod Readings
 pub mod Written
+pub mod Takings

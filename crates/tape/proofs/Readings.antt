@@ -55,9 +55,6 @@ pub record Gone (s : List ℕ) (n at : ℕ) : Type 0 where
   pub count : length (reading s).calls ≡ n + length (read_from (length s / 52 - n) s at).calls
   pub ending : (reading s).ending ≡ (read_from (length s / 52 - n) s at).ending
 
-pub gone_none : (s : List ℕ) → Gone s 0 0
-gone_none s = record { place = refl; within = omega arith; count = rw (sub-zero, zero-add); ending = rw sub-zero }
-
 pub gone_more : (s : List ℕ) (n at call hart next : ℕ) → Gone s n at → step_at s at ≡ Record call hart next → Gone s (n + 1) (at + 52)
 unfolding read_from
 gone_more s n at call hart next g p =

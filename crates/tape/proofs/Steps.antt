@@ -51,19 +51,6 @@ is_good s at l m = rw (lt-leb (length s) at (omega arith), le-ltb (length s - at
 pub passed : Passed
 passed s at call hart next p = let g = good s at call hart next p in (g.next_at, omega arith)
 
--- a step that is no record stops, and has no argument bytes
-pub stops : (r : Step) → ((c h n : ℕ) → r ≡ Record c h n → ⊥) → Stops r
-stops End k = tt
-stops Short k = tt
-stops Mark k = tt
-stops (Record c h n) k = absurd (k c h n refl)
-
-pub no_part : (r : Step) (part : List ℕ) → Stops r → [] ≡ part_of r part
-no_part End part k = refl
-no_part Short part k = refl
-no_part Mark part k = refl
-no_part (Record c h n) part k = absurd k
-
 -- where fewer than 52 bytes are left no good record stands
 pub none_left : (s : List ℕ) (at : ℕ) → length s < at + 52 → Stops (step_at s at)
 none_left s at l = go (step_at s at) refl

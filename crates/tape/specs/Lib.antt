@@ -1,2 +1,3 @@
 pub mod Tape
 pub mod Promises
+pub mod Reader

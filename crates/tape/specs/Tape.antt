@@ -4,7 +4,6 @@ use Rattle.rules.specs.declared.Call.{Call}
 use Rattle.tape.specs.declared.record.Step.{Step}
 use Rattle.tape.specs.declared.record.Step.TheVariants.{End, Short, Mark, Record}
 use Rattle.tape.specs.declared.reader.Reader.{Reader}
-use Rattle.tape.specs.declared.reader.Went.{Went}
 use Rattle.tape.specs.declared.reading.Run.{Run}
 
 -- ---- at an offset
@@ -65,10 +64,6 @@ step_of r = step_at r.tape.now r.at
 
 abbrev pub moved_on : Reader → Reader
 moved_on r = record { tape = r.tape; at = after_of (step_of r) r.at }
-
--- a step from an offset, and the offset after it
-abbrev pub went_at : List ℕ → ℕ → Went
-went_at s at = record { step = step_at s at; at = after_of (step_at s at) at }
 
 -- ---- a whole tape
 -- what its good records ask, in order, and what ends the run

@@ -1,58 +1,49 @@
 // "A tape reader lends out the tape it walks and remembers its place": a struct that holds the slice and the offset, thin over `record`.
-ghost use Rattle.std.specs.Prelude.{◌≡◌};
-ghost use Rattle.tape.specs.Tape.{args_at, step_of, moved_on, went_at};
+ghost use Rattle.std.specs.Prelude.{◌≡◌, ◌-◌, length};
+ghost use Rattle.std.specs.Iterator.{at_most};
+ghost use Rattle.tape.specs.Tape.{step_of};
+ghost use Rattle.tape.specs.Reader.{Takes};
 
 use super::record::{Step, after, args_at, step_at};
 
-#[derive(Clone, Copy)]
+#[derive(Clone, Copy, Debug)]
 pub struct Reader<'a> {
     pub tape: &'a [u8],
     pub at: usize,
 }
 
-// The next step, and the reader moved on.
-pub fn next<'s, 'a>(r: &'s mut Reader<'a>) -> Step
-    ensures { (result ≡ step_of r.old) × (r.new ≡ moved_on r.old) }
-{
-    let at = r.at;
-    let step = step_at(r.tape, at);
-    r.at = after(step, at);
-    step
-}
-
-// A step with the argument bytes of its record, lent on for as long as the tape is. (No enum can hold a reference.)
-#[derive(Clone, Copy)]
+// A good record: "it hands back the 48 argument bytes as that part of the tape", lent on for as long as the tape is.
+#[derive(Clone, Copy, Debug)]
 pub struct Taken<'a> {
-    pub step: Step,
+    pub call: u8,
+    pub hart: u8,
     pub args: &'a [u8],
 }
 
-// "For a good record it hands back the 48 argument bytes as that part of the tape."
-pub fn take<'s, 'a>(r: &'s mut Reader<'a>) -> Taken<'a>
-    ensures { (result.step ≡ step_of r.old)
-        × (result.args.now ≡ args_at r.old.tape.now r.old.at)
-        × (r.new ≡ moved_on r.old) }
-{
-    let at = r.at;
-    let tape = r.tape;
-    let step = step_at(tape, at);
-    let args = args_at(tape, at);
-    r.at = after(step, at);
-    Taken { step, args }
+impl<'a> Reader<'a> {
+    // What stands at its place: where no record is left to take, why.
+    pub fn step(&self) -> Step
+        ensures { result ≡ step_of self.now }
+    {
+        step_at(self.tape, self.at)
+    }
 }
 
-// A step and the place after it, without the reference: what a plain caller has of a reader.
-#[derive(Clone, Copy)]
-pub struct Went {
-    pub step: Step,
-    pub at: usize,
-}
+// The good records, in order: one that doesn't read ends them, and the reader stays there.
+impl<'a> Iterator for Reader<'a> {
+    type Item = Taken<'a>;
 
-// A reader's step from an offset: callers need no walk.
-pub fn read_at(tape: &[u8], at: usize) -> Went
-    ensures { result ≡ went_at tape.now at }
-{
-    let mut r = Reader { tape, at };
-    let step = next(&mut r);
-    Went { step, at: r.at }
+    ghost next_gives = { Takes };
+
+    ghost remaining = { λ r. at_most (length r.tape.now - r.at) };
+
+    fn next(&mut self) -> Option<Taken<'a>> {
+        let step = self.step();
+        let args = args_at(self.tape, self.at);
+        self.at = after(step, self.at);
+        let Step::Record { call, hart, .. } = step else {
+            return None;
+        };
+        Some(Taken { call, hart, args })
+    }
 }

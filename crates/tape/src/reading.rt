@@ -2,10 +2,10 @@
 ghost use Rattle.std.specs.Prelude.{◌≡◌};
 ghost use Rattle.tape.specs.Tape.{run_of};
 
-use super::reader::read_at;
+use super::reader::Reader;
 use super::record::Step;
 
-#[derive(Clone, Copy)]
+#[derive(Clone, Copy, Debug, PartialEq, Eq)]
 pub struct Run {
     pub records: usize,
     pub end: Step,
@@ -15,24 +15,12 @@ pub struct Run {
 pub fn run_of(tape: &[u8]) -> Run
     ensures { result ≡ run_of tape.now }
 {
+    let mut reader = Reader { tape, at: 0 };
     let mut records = 0;
-    let mut at = 0;
-    while at < tape.len() {
-        let went = read_at(tape, at);
-        let step = went.step;
-        let Step::Record {
-            call: _,
-            hart: _,
-            next: _,
-        } = step
-        else {
-            return Run { records, end: step };
-        };
+    // A `for` over `&mut reader` would leave it unknown where the reader stands after it.
+    while let Some(_) = reader.next() {
         records += 1;
-        at = went.at;
     }
-    Run {
-        records,
-        end: Step::End,
-    }
+    let end = reader.step();
+    Run { records, end }
 }

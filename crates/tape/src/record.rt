@@ -1,10 +1,11 @@
 // One record of 52 bytes: the mark, the call, the hart and six arguments.
-ghost use Rattle.std.specs.Prelude.{◌≡◌, ◌*◌, ◌<◌, get_or};
+ghost use Rattle.std.specs.Prelude.{◌≡◌, ◌*◌, get_or};
 ghost use Rattle.tape.specs.Tape.{step_at, after_of, args_at, word, call_of};
 
 use rules::Call;
 
-#[derive(Clone, Copy)]
+// What stands at an offset. The theorems of `specs/Promises.antt` speak of these four cases, so they stay one enum, and not an Option of a Result.
+#[derive(Clone, Copy, Debug, PartialEq, Eq)]
 pub enum Step {
     // Nothing left.
     End,
@@ -44,14 +45,8 @@ pub fn after(step: Step, at: usize) -> usize
     ensures { result ≡ after_of step at }
 {
     match step {
-        Step::Record {
-            call: _,
-            hart: _,
-            next,
-        } => next,
-        Step::End => at,
-        Step::Short => at,
-        Step::Mark => at,
+        Step::Record { next, .. } => next,
+        Step::End | Step::Short | Step::Mark => at,
     }
 }
 
@@ -59,46 +54,35 @@ pub fn after(step: Step, at: usize) -> usize
 pub fn args_at(tape: &[u8], at: usize) -> &[u8]
     ensures { result.now ≡ args_at tape.now at }
 {
-    let Step::Record {
-        call: _,
-        hart: _,
-        next,
-    } = step_at(tape, at)
-    else {
-        return &tape[..0];
+    let Step::Record { next, .. } = step_at(tape, at) else {
+        return &[];
     };
     let start = at + 4;
     &tape[start..next]
 }
 
-fn wide(x: u8) -> u64
-    ensures { (result ≡ x) × (result < 256) }
-{
-    x as u64
-}
-
 // A byte that is not there adds nothing to a number, so an argument needs no refusal.
-fn byte(s: &[u8], k: usize) -> u64
-    ensures { (result ≡ get_or s.now k 0) × (result < 256) }
+fn byte(args: &[u8], k: usize) -> u8
+    ensures { result ≡ get_or args.now k 0 }
 {
-    if k < s.len() { wide(s[k]) } else { 0 }
+    args.get(k).copied().unwrap_or(0)
 }
 
 // Argument i of the 48 bytes.
 pub fn arg(args: &[u8], i: u8) -> u64
     ensures { result ≡ word args.now (i * 8) }
 {
-    let k = i as usize * 8;
-    let b0 = byte(args, k);
-    let b1 = byte(args, k + 1);
-    let b2 = byte(args, k + 2);
-    let b3 = byte(args, k + 3);
-    let b4 = byte(args, k + 4);
-    let b5 = byte(args, k + 5);
-    let b6 = byte(args, k + 6);
-    let b7 = byte(args, k + 7);
-    let high = b4 + 256 * (b5 + 256 * (b6 + 256 * b7));
-    b0 + 256 * (b1 + 256 * (b2 + 256 * (b3 + 256 * high)))
+    let k = usize::from(i) * 8;
+    u64::from_le_bytes([
+        byte(args, k),
+        byte(args, k + 1),
+        byte(args, k + 2),
+        byte(args, k + 3),
+        byte(args, k + 4),
+        byte(args, k + 5),
+        byte(args, k + 6),
+        byte(args, k + 7),
+    ])
 }
 
 // What a record asks, of its call, its hart and its argument bytes.
@@ -106,8 +90,8 @@ pub fn call_of(call: u8, hart: u8, args: &[u8]) -> Call
     ensures { result ≡ call_of call hart args.now }
 {
     Call {
-        number: wide(call),
-        hart: wide(hart),
+        number: u64::from(call),
+        hart: u64::from(hart),
         a0: arg(args, 0),
         a1: arg(args, 1),
         a2: arg(args, 2),

@@ -1,10 +1,6 @@
-use Prim.Native.Nat.{◌-◌}
-use lib.ListN.{length}
+use mathlib.Core.Path.{◌≡◌}
 use Rattle.tape.proofs.Readings.{Gone}
 use Rattle.tape.proofs.reading.run_of.Given as goal
 
-abbrev pub invariant-loop-at : goal.invariant-loop-at
-invariant-loop-at l = Gone l.tape l.records l.at
-
-abbrev pub decreases-loop-at : goal.decreases-loop-at
-decreases-loop-at l = length l.tape - l.at
+abbrev pub invariant-loop-records : goal.invariant-loop-records
+invariant-loop-records l = (l.reader.tape.now ≡ l.tape) × Gone l.tape l.records l.reader.at
