@@ -38,12 +38,7 @@ pub fn any_claimed(t: &[u8], n: usize, slot: u8, first: u32, count: u32) -> bool
     requires { (8 * n ≤ length t.now) × (first + count ≤ 1048576) }
     ensures { result ≡ any (λ d. ltb (meant (pages_of t.now) n slot (first + d)) n) count }
 {
-    for i in 0..n {
-        if claims_in(read(t, i), slot, first, count) {
-            return true;
-        }
-    }
-    false
+    (0..n).any(|i| claims_in(read(t, i), slot, first, count))
 }
 
 fn is_given(p: Page, slot: u8) -> bool
