@@ -216,9 +216,9 @@ module _ (c : Call) (r0 r1 r2 r3 r4 r5 : ℕ) (e0 : r0 ≡ role_at c.number 0) (
       zero_is false = member-without 0 R 0
 
 -- ---- sizes
-pub long-is : (c : Call) → ltb 4096 (size c) ≡ long_by (names ByteLength c) (names UnitCount c) (arg ByteLength c) (arg UnitCount c) (arg UnitType c)
+pub long_is : (c : Call) → ltb 4096 (size c) ≡ long_by (names ByteLength c) (names UnitCount c) (arg ByteLength c) (arg UnitCount c) (arg UnitType c)
 unfolding size
-long-is c = go (names ByteLength c) (names UnitCount c)
+long_is c = go (names ByteLength c) (names UnitCount c)
   where
     go : (m n : Bool) → ltb 4096 (cond m (arg ByteLength c / 4096) (cond n (arg UnitCount c * unit c) 1)) ≡ long_by m n (arg ByteLength c) (arg UnitCount c) (arg UnitType c)
     go true n = refl

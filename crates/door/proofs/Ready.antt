@@ -7,7 +7,7 @@ use mathlib.Core.Bool.{true, false, not, ◌&&◌, ◌||◌}
 use mathlib.Core.List.{List}
 use native.Mathlib.Omega.{arith}
 use lib.Dec.{eqb}
-use lib.ListN.{length, get_or}
+use lib.ListN.{length}
 use borrow.Author.Tests.{eqb-true, not-false}
 use Rattle.sets.specs.Terms.{one_of, one_from, within}
 use Rattle.sets.proofs.Bools.{or_cases, and_left, and_right, and_off}
@@ -86,7 +86,7 @@ pub counted_not_9 : (c : Call) → names UnitCount c ≡ true → eqb c.number 9
 unfolding entry_of one_of one_from
 counted_not_9 c n = not_that 9 UnitCount c refl n
 
-module _ {ws b : List ℕ} {c : Call} {a : List ℕ} {pages : ℕ} (r : Ready ws b c a pages) where
+module _ {ws b : List ℕ} {c : Call} {pages : ℕ} (r : Ready ws b c pages) where
   pub early_of : Early (view ws) (pages_of b) c
   early_of = not-early (view ws) (pages_of b) c r.early_off
 
@@ -98,11 +98,11 @@ module _ {ws b : List ℕ} {c : Call} {a : List ℕ} {pages : ℕ} (r : Ready ws
   pub records_few : opens c ≡ false → (view ws).pages ≤ 4096
   records_few n = few_pages (view ws) (pages_of b) c early_of n
 
-  pub tvm_fits : names Tvm c ≡ true → get_or a 1 0 < 16
-  tvm_fits n = rw (r.asked.value Tvm) (slot_in (view ws) (pages_of b) c early_of n)
+  pub tvm_fits : names Tvm c ≡ true → arg Tvm c < 16
+  tvm_fits n = slot_in (view ws) (pages_of b) c early_of n
 
-  pub vcpu_fits : names Vcpu c ≡ true → get_or a 2 0 < 8
-  vcpu_fits n = rw (r.asked.value Vcpu) (vcpu_in (view ws) (pages_of b) c early_of n)
+  pub vcpu_fits : names Vcpu c ≡ true → arg Vcpu c < 8
+  vcpu_fits n = vcpu_in (view ws) (pages_of b) c early_of n
 
   pub hart-fits : opens c ≡ false → c.hart < 8
   hart-fits n = hart_low (view ws) (pages_of b) c early_of n
@@ -110,27 +110,27 @@ module _ {ws b : List ℕ} {c : Call} {a : List ℕ} {pages : ℕ} (r : Ready ws
   pub pages_fit : eqb c.number 9 ≡ false → pages ≤ 4096
   pages_fit n = rw r.sized (size_in (view ws) (pages_of b) c early_of n)
 
-  pub guest_fits : names GuestBase c ≡ true → get_or a 8 0 / 4096 + pages ≤ 1048576
-  guest_fits n = rw (r.sized, r.asked.value GuestBase) (guest_in (view ws) (pages_of b) c early_of n)
+  pub guest_fits : names GuestBase c ≡ true → arg GuestBase c / 4096 + pages ≤ 1048576
+  guest_fits n = rw r.sized (guest_in (view ws) (pages_of b) c early_of n)
 
   in_table : (base n : ℕ) → opens c ≡ false → Placed base n (view ws).pages → (memory ≤ base) × (8 * (index base + n) ≤ length b)
   in_table base n o p = (p.above, omega (arith, p.inside, all_records o))
 
-  pub host_fits : names HostBase c ≡ true → (memory ≤ get_or a 3 0) × (8 * (index (get_or a 3 0) + pages) ≤ length b)
-  host_fits n = rw (r.sized, r.asked.value HostBase) (in_table (arg HostBase c) (size c) (host_not_open c n) (host_in (view ws) (pages_of b) c early_of n))
+  pub host_fits : names HostBase c ≡ true → (memory ≤ arg HostBase c) × (8 * (index (arg HostBase c) + pages) ≤ length b)
+  host_fits n = rw r.sized (in_table (arg HostBase c) (size c) (host_not_open c n) (host_in (view ws) (pages_of b) c early_of n))
 
-  pub free_fits : names FreeBase c ≡ true → (memory ≤ get_or a 4 0) × (8 * (index (get_or a 4 0) + pages) ≤ length b)
-  free_fits n = rw (r.sized, r.asked.value FreeBase) (in_table (arg FreeBase c) (size c) (free_not_open c n) (free_in (view ws) (pages_of b) c early_of n))
+  pub free_fits : names FreeBase c ≡ true → (memory ≤ arg FreeBase c) × (8 * (index (arg FreeBase c) + pages) ≤ length b)
+  free_fits n = rw r.sized (in_table (arg FreeBase c) (size c) (free_not_open c n) (free_in (view ws) (pages_of b) c early_of n))
 
-  pub directory_fits : names DirectoryBase c ≡ true → (memory ≤ get_or a 5 0) × (8 * (index (get_or a 5 0) + 4) ≤ length b)
-  directory_fits n = rw (r.asked.value DirectoryBase) (in_table (arg DirectoryBase c) 4 (directory_not_open c n) (directory_in (view ws) (pages_of b) c early_of n))
+  pub directory_fits : names DirectoryBase c ≡ true → (memory ≤ arg DirectoryBase c) × (8 * (index (arg DirectoryBase c) + 4) ≤ length b)
+  directory_fits n = in_table (arg DirectoryBase c) 4 (directory_not_open c n) (directory_in (view ws) (pages_of b) c early_of n)
 
   -- open has the table's own length
-  pub opening-fits : opens c ≡ true → (8 * get_or a 11 0 ≤ length b) × (get_or a 11 0 ≤ 4096)
+  pub opening-fits : opens c ≡ true → (8 * arg PageCount c ≤ length b) × (arg PageCount c ≤ 4096)
   unfolding pages_of refuses4
   opening-fits o =
       let n = arg PageCount c in
       let x = not-false (within 1 4096 n && fits (pages_of b) n) (and_off (opens c) (not (within 1 4096 n && fits (pages_of b) n)) (one_off _ early_of.e4 11) o) in
       let h = in_within 1 4096 n (and_left (within 1 4096 n) (fits (pages_of b) n) x) in
       let e : length b ≡ 8 * n = fits-is (pages_of b) n (and_right (within 1 4096 n) (fits (pages_of b) n) x) in
-      rw (r.asked.value PageCount) (omega (arith, e), omega (arith, h.1))
+      (omega (arith, e), omega (arith, h.1))

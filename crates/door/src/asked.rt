@@ -1,4 +1,4 @@
-// The door: what a call's arguments are is settled once. Twelve words: word k is the argument of role k, and word 0 the set of the roles that the
+// What a call's arguments are is settled once. Twelve words: word k is the argument of role k, and word 0 the set of the roles that the
 // call names, with 0 in it where an argument that is not named is not 0.
 ghost use Rattle.std.specs.Prelude.{◌≡◌, cond, ◌<◌};
 ghost use Rattle.sets.specs.Set.{with, without};
@@ -8,6 +8,7 @@ ghost use Rattle.door.specs.Asked.{Asked, unnamed_by, roles_of};
 use rules::Call;
 use rules::tables::role_at;
 
+#[tactic(auto, using(crate::proofs::Named::role_at_lem))]
 fn role(call: u64, row: u64, i: u64) -> u64
     requires { row ≡ row_of call }
     ensures { (result ≡ role_at call i) × (result < 12) }
@@ -16,6 +17,7 @@ fn role(call: u64, row: u64, i: u64) -> u64
 }
 
 // Some argument whose role is 0 is not 0.
+#[tactic(auto, unfolding(sets::specs::Terms::one_of, sets::specs::Terms::one_from))]
 fn spare(q: Call, r0: u64, r1: u64, r2: u64, r3: u64, r4: u64, r5: u64) -> bool
     ensures { result ≡ unnamed_by q r0 r1 r2 r3 r4 r5 }
 {

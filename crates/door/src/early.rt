@@ -1,41 +1,31 @@
 // Refusals 1 to 4, which look at no record.
-ghost use Rattle.std.specs.Prelude.{◌≡◌, ◌<◌, get_or, length};
-ghost use Rattle.sets.specs.Set.{member};
+ghost use Rattle.std.specs.Prelude.{◌≡◌, length};
 ghost use Rattle.rules.specs.Page.{fits as fits_table};
 ghost use Rattle.rules.specs.Ledger.{is_open};
-ghost use Rattle.rules.specs.Tables.{row_of};
 ghost use Rattle.rules.specs.Refusals as n;
 ghost use Rattle.rules.specs.Encoding.{view, pages_of};
-ghost use Rattle.door.specs.Asked.{Asked, long_by, names_for_4};
+ghost use Rattle.door.specs.Asked.{long_by, names_for_4};
 
-use super::roles::{COUNT, HARTS, LENGTH, PAGES, TVM, TYPE, VCPU};
-use rules::Call;
-use rules::tables::{is_lawful, is_unknown};
+use super::request::Request;
+use rules::Role;
+use rules::numbers::{Operation, Phase};
 use words::{Words, parts, sizes};
 
-// The call names an argument of the role.
-pub fn names(a: &[u64; 12], role: usize) -> bool
-    requires { role < 12 }
-    ensures { result ≡ member role (get_or a.now 0 0) }
+#[tactic(auto, unfolding(rules::specs::Refusals::refuses1))]
+pub fn refuses1(l: &Words, t: &[u8], r: &Request) -> bool
+    ensures { result ≡ n.refuses1 (view l.now) (pages_of t.now) r.now }
 {
-    sets::has(a[0], role)
+    r.is_unknown()
 }
 
-pub fn refuses1(l: &Words, t: &[u8], q: Call, row: u64) -> bool
-    requires { row ≡ row_of q.number }
-    ensures { result ≡ n.refuses1 (view l.now) (pages_of t.now) q }
+#[tactic(auto, unfolding(rules::specs::Refusals::refuses2))]
+pub fn refuses2(l: &Words, t: &[u8], r: &Request) -> bool
+    ensures { result ≡ n.refuses2 (view l.now) (pages_of t.now) r.now }
 {
-    is_unknown(q.number, row)
-}
-
-pub fn refuses2(l: &Words, t: &[u8], q: Call, a: &[u64; 12]) -> bool
-    requires { Asked q a.now }
-    ensures { result ≡ n.refuses2 (view l.now) (pages_of t.now) q }
-{
-    let tvm = a[TVM];
-    let named = names(a, TVM);
+    let tvm = r.arg(Role::Tvm);
+    let named = r.names(Role::Tvm);
     let phase = parts::phase(l, tvm);
-    named & ((15 < tvm) | (phase == 0))
+    named & ((15 < tvm) | (phase == Phase::Empty as u32))
 }
 
 fn is_open(l: &Words) -> bool
@@ -52,6 +42,7 @@ fn size_of(t: &[u8]) -> u64
     t.len() as u64
 }
 
+#[tactic(auto, unfolding(rules::specs::Encoding::pages_of))]
 fn fits(t: &[u8], n: u64) -> bool
     ensures { result ≡ fits_table (pages_of t.now) n }
 {
@@ -59,22 +50,18 @@ fn fits(t: &[u8], n: u64) -> bool
     (len / 8 == n) & (len % 8 == 0)
 }
 
-pub fn refuses3(l: &Words, t: &[u8], q: Call, a: &[u64; 12], row: u64) -> bool
-    requires { Asked q a.now × (row ≡ row_of q.number) }
-    ensures { result ≡ n.refuses3 (view l.now) (pages_of t.now) q }
+#[tactic(auto, unfolding(rules::specs::Refusals::refuses3, sets::specs::Terms::one_of, sets::specs::Terms::one_from))]
+pub fn refuses3(l: &Words, t: &[u8], r: &Request) -> bool
+    ensures { result ≡ n.refuses3 (view l.now) (pages_of t.now) r.now }
 {
-    let tvm = a[TVM];
-    let number = q.number;
-    let named = names(a, TVM);
-    let phase = parts::phase(l, tvm);
-    let lawful = is_lawful(number, row, phase as u64);
+    let named = r.names(Role::Tvm);
+    let phase = parts::phase(l, r.arg(Role::Tvm));
+    let lawful = r.is_lawful(phase as u64);
+    let opens = r.is(Operation::Open);
     let open = is_open(l);
     let pages = sizes::pages(l);
     let sized = fits(t, pages as u64);
-    (named & !lawful)
-        | (!(number == 33) & !open)
-        | ((number == 33) & open)
-        | (!(number == 33) & !sized)
+    (named & !lawful) | (!opens & !open) | (opens & open) | (!opens & !sized)
 }
 
 // A range has more than 4,096 pages. (A count of large pages may be too long for its pages to be counted.)
@@ -94,6 +81,7 @@ fn is_long(measured: bool, counted: bool, length: u64, count: u64, kind: u64) ->
 }
 
 // The vCPU of the slot is made.
+#[tactic(auto, using(crate::proofs::Named::made_past))]
 pub fn is_made(l: &Words, k: u64, v: u64) -> bool
     ensures { result ≡ ((view l.now).slot k).made v }
 {
@@ -105,63 +93,61 @@ pub fn is_made(l: &Words, k: u64, v: u64) -> bool
     }
 }
 
-fn any_out_of_range(l: &Words, t: &[u8], q: Call, a: &[u64; 12]) -> bool
-    requires { Asked q a.now }
-    ensures { result ≡ n.refuses4 (view l.now) (pages_of t.now) q }
+#[tactic(auto, using(crate::proofs::Named::long_is), unfolding(rules::specs::Refusals::refuses4, sets::specs::Terms::one_of, sets::specs::Terms::one_from))]
+fn any_out_of_range(l: &Words, t: &[u8], r: &Request) -> bool
+    ensures { result ≡ n.refuses4 (view l.now) (pages_of t.now) r.now }
 {
-    let number = q.number;
-    let hart = q.hart;
-    let count = a[COUNT];
-    let kind = a[TYPE];
-    let length = a[LENGTH];
-    let vcpu = a[VCPU];
-    let harts = a[HARTS];
-    let pages = a[PAGES];
+    let hart = r.hart();
+    let count = r.arg(Role::UnitCount);
+    let kind = r.arg(Role::UnitType);
+    let length = r.arg(Role::ByteLength);
+    let vcpu = r.arg(Role::Vcpu);
+    let harts = r.arg(Role::HartCount);
+    let pages = r.arg(Role::PageCount);
     let all = sizes::harts(l);
-    let spare = names(a, 0);
-    let counted = names(a, COUNT);
-    let typed = names(a, TYPE);
-    let measured = names(a, LENGTH);
+    let opens = r.is(Operation::Open);
+    let counted = r.names(Role::UnitCount);
+    let typed = r.names(Role::UnitType);
+    let measured = r.names(Role::ByteLength);
     let long = is_long(measured, counted, length, count, kind);
-    let seated = names(a, VCPU);
-    let made = is_made(l, a[TVM], vcpu);
+    let seated = r.names(Role::Vcpu);
+    let made = is_made(l, r.arg(Role::Tvm), vcpu);
     let sized = fits(t, pages);
-    ((number == 33) & (0 < hart))
-        | (!(number == 33) & (all as u64 <= hart))
-        | spare
+    (opens & (0 < hart))
+        | (!opens & (all as u64 <= hart))
+        | r.has_spare()
         | (counted & (count == 0))
         | (typed & (1 < kind))
-        | (!(number == 9) & long)
+        | (!r.is(Operation::Region) & long)
         | (measured & (length == 0))
         | (measured & !(length % 4096 == 0))
         | (seated & (7 < vcpu))
-        | ((number == 15) & !made)
-        | ((number == 33) & !((1 <= harts) & (harts < 9)))
-        | ((number == 33) & !(((1 <= pages) & (pages < 4097)) & sized))
+        | (r.is(Operation::Enter) & !made)
+        | (opens & !((1 <= harts) & (harts < 9)))
+        | (opens & !(((1 <= pages) & (pages < 4097)) & sized))
 }
 
 // There is more for 4 to look at than the hart: an argument of one of these roles, or one that is not named and not 0.
-fn names_for_4(q: Call, a: &[u64; 12]) -> bool
-    requires { Asked q a.now }
-    ensures { result ≡ names_for_4 q }
+#[tactic(auto, unfolding(sets::specs::Terms::one_of, sets::specs::Terms::one_from))]
+fn names_for_4(r: &Request) -> bool
+    ensures { result ≡ names_for_4 r.now }
 {
-    names(a, 0)
-        | names(a, VCPU)
-        | names(a, COUNT)
-        | names(a, TYPE)
-        | names(a, LENGTH)
-        | names(a, HARTS)
-        | names(a, PAGES)
+    r.has_spare()
+        | r.names(Role::Vcpu)
+        | r.names(Role::UnitCount)
+        | r.names(Role::UnitType)
+        | r.names(Role::ByteLength)
+        | r.names(Role::HartCount)
+        | r.names(Role::PageCount)
 }
 
 // Of a call that names none of these only the hart can be out of range.
-pub fn refuses4(l: &Words, t: &[u8], q: Call, a: &[u64; 12]) -> bool
-    requires { Asked q a.now }
-    ensures { result ≡ n.refuses4 (view l.now) (pages_of t.now) q }
+#[tactic(auto, using(crate::proofs::Bare::only_hart))]
+pub fn refuses4(l: &Words, t: &[u8], r: &Request) -> bool
+    ensures { result ≡ n.refuses4 (view l.now) (pages_of t.now) r.now }
 {
-    let hart = q.hart;
-    if names_for_4(q, a) {
-        return any_out_of_range(l, t, q, a);
+    if names_for_4(r) {
+        return any_out_of_range(l, t, r);
     }
-    sizes::harts(l) as u64 <= hart
+    sizes::harts(l) as u64 <= r.hart()
 }

@@ -3,7 +3,7 @@
 
 #![tactic(auto)]
 
-pub mod asked;
+mod asked;
 pub mod early;
 pub mod places;
-pub mod roles;
+pub mod request;

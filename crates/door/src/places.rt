@@ -4,12 +4,10 @@ ghost use Rattle.sets.specs.Terms.{within};
 ghost use Rattle.rules.specs.Calls.{size, span};
 ghost use Rattle.rules.specs.Refusals as n;
 ghost use Rattle.rules.specs.Encoding.{view, pages_of};
-ghost use Rattle.door.specs.Asked.{Asked};
 ghost use Rattle.door.specs.Places.{Countable, names_place, past_guest, size_by};
 
-use super::early::names;
-use super::roles::{COUNT, DIRECTORY, FREE, GUEST, HOST, LENGTH, TYPE};
-use rules::Call;
+use super::request::Request;
+use rules::Role;
 use words::{Words, sizes};
 
 // Where memory begins.
@@ -76,47 +74,60 @@ fn in_directory(directory: u64, state: u64) -> bool
 }
 
 // The call names an address. Of one that names none 5, 6, 7 and 14 cannot hold, and nothing of them is reckoned.
-pub fn names_place(q: Call, a: &[u64; 12]) -> bool
-    requires { Asked q a.now }
-    ensures { result ≡ names_place q }
+pub fn names_place(r: &Request) -> bool
+    ensures { result ≡ names_place r.now }
 {
-    names(a, HOST) | names(a, DIRECTORY) | names(a, FREE) | names(a, GUEST)
+    r.names(Role::HostBase)
+        | r.names(Role::DirectoryBase)
+        | r.names(Role::FreeBase)
+        | r.names(Role::GuestBase)
 }
 
 // How many pages the call's range has.
-pub fn sized(q: Call, a: &[u64; 12]) -> u64
-    requires { Asked q a.now × ((not (eqb q.number 9) && ltb 4096 (size q)) ≡ false) }
-    ensures { result ≡ size q }
+#[tactic(auto, using(crate::proofs::Ready::counted_not_9), unfolding(rules::specs::Calls::size))]
+pub fn sized(r: &Request) -> u64
+    requires { (not (eqb r.now.number 9) && ltb 4096 (size r.now)) ≡ false }
+    ensures { result ≡ size r.now }
 {
-    let measured = names(a, LENGTH);
-    let counted = names(a, COUNT);
-    pages_of(measured, counted, a[LENGTH], a[COUNT], a[TYPE])
+    let measured = r.names(Role::ByteLength);
+    let counted = r.names(Role::UnitCount);
+    pages_of(
+        measured,
+        counted,
+        r.arg(Role::ByteLength),
+        r.arg(Role::UnitCount),
+        r.arg(Role::UnitType),
+    )
 }
 
-fn any_misplaced(l: &Words, t: &[u8], q: Call, a: &[u64; 12], pages: u64) -> bool
-    requires { Asked q a.now × (pages ≡ size q) }
-    ensures { result ≡ n.refuses5 (view l.now) (pages_of t.now) q }
+#[tactic(auto, using(rules::proofs::Spans::host_spans_lem, rules::proofs::Spans::free_spans_lem), unfolding(rules::specs::Refusals::refuses5, sets::specs::Terms::one_of, sets::specs::Terms::one_from))]
+fn any_misplaced(l: &Words, t: &[u8], r: &Request, pages: u64) -> bool
+    requires { pages ≡ size r.now }
+    ensures { result ≡ n.refuses5 (view l.now) (pages_of t.now) r.now }
 {
-    let host = a[HOST];
-    let free = a[FREE];
-    let directory = a[DIRECTORY];
-    let guest = a[GUEST];
-    let unit = unit_of(a[TYPE]);
+    let host = r.arg(Role::HostBase);
+    let free = r.arg(Role::FreeBase);
+    let directory = r.arg(Role::DirectoryBase);
+    let guest = r.arg(Role::GuestBase);
+    let unit = unit_of(r.arg(Role::UnitType));
     let total = sizes::pages(l);
-    (names(a, HOST) & misplaced(host, pages, 1, total))
-        | ((names(a, DIRECTORY) & misplaced(directory, 4, 4, total))
-            | (names(a, FREE) & misplaced(free, pages, unit, total)))
-        | (names(a, GUEST) & (guest % (4096 * unit) != 0))
-        | (names(a, GUEST) & past_guest(guest, pages))
-        | (names(a, DIRECTORY) & in_directory(directory, free))
+    let guests = r.names(Role::GuestBase);
+    let directories = r.names(Role::DirectoryBase);
+    (r.names(Role::HostBase) & misplaced(host, pages, 1, total))
+        | ((directories & misplaced(directory, 4, 4, total))
+            | (r.names(Role::FreeBase) & misplaced(free, pages, unit, total)))
+        | (guests & (guest % (4096 * unit) != 0))
+        | (guests & past_guest(guest, pages))
+        | (directories & in_directory(directory, free))
 }
 
-pub fn refuses5(l: &Words, t: &[u8], q: Call, a: &[u64; 12], pages: u64) -> bool
-    requires { Asked q a.now × (pages ≡ size q) }
-    ensures { result ≡ n.refuses5 (view l.now) (pages_of t.now) q }
+#[tactic(auto, using(crate::proofs::Placeless::not_5))]
+pub fn refuses5(l: &Words, t: &[u8], r: &Request, pages: u64) -> bool
+    requires { pages ≡ size r.now }
+    ensures { result ≡ n.refuses5 (view l.now) (pages_of t.now) r.now }
 {
-    if names_place(q, a) {
-        return any_misplaced(l, t, q, a, pages);
+    if names_place(r) {
+        return any_misplaced(l, t, r, pages);
     }
     false
 }

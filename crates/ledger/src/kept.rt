@@ -4,12 +4,12 @@ ghost use Rattle.rules.specs.Ledger.{with_slot, bare};
 ghost use Rattle.rules.specs.Calls.{size};
 ghost use Rattle.rules.specs.Refusals as n;
 ghost use Rattle.rules.specs.Encoding.{view};
-ghost use Rattle.door.specs.Asked.{Asked};
 ghost use Rattle.ledger.specs.Settled.{Lawful, Kept, InSlots};
 
-use door::roles::{GUEST, HARTS, PAGES, TVM, VCPU};
+use door::request::Request;
 use effects::{entering, fencing, slots};
-use rules::Call;
+use rules::Role;
+use rules::numbers::{Operation, Phase};
 use seats::room::taken;
 use words::{Words, parts, sizes};
 
@@ -27,35 +27,48 @@ fn create(l: &mut Words) -> u64
 }
 
 // 6, 8, 9, 14 and 33, whose value is 0 as where none is named; the other calls leave the ledger as it is.
-fn on_slots(l: &mut Words, q: Call, a: &[u64; 12], pages: u64) -> u64
-    requires { Lawful (view l.old) q × Asked q a.now × (pages ≡ size q) × InSlots q }
-    ensures { Kept (view l.old) q result (view l.new) }
+fn on_slots(l: &mut Words, r: &Request, pages: u64) -> u64
+    requires { Lawful (view l.old) r.now × (pages ≡ size r.now) × InSlots r.now }
+    ensures { Kept (view l.old) r.now result (view l.new) }
 {
-    let number = q.number;
-    let tvm = a[TVM];
-    match number {
-        6 => parts::set_phase(l, tvm, 2),
-        8 => slots::destroy(l, tvm),
-        9 => slots::add_region(l, tvm, a[GUEST] / 4096, pages),
-        14 => slots::make_vcpu(l, tvm, a[VCPU]),
-        33 => sizes::open(l, a[HARTS] as u8, a[PAGES] as u32),
-        _ => {}
+    let tvm = r.arg(Role::Tvm);
+    if r.is(Operation::Finalize) {
+        parts::set_phase(l, tvm, Phase::Runnable as u32)
+    } else if r.is(Operation::Destroy) {
+        slots::destroy(l, tvm)
+    } else if r.is(Operation::Region) {
+        slots::add_region(l, tvm, r.arg(Role::GuestBase) / 4096, pages)
+    } else if r.is(Operation::Vcpu) {
+        slots::make_vcpu(l, tvm, r.arg(Role::Vcpu))
+    } else if r.is(Operation::Open) {
+        sizes::open(
+            l,
+            r.arg(Role::HartCount) as u8,
+            r.arg(Role::PageCount) as u32,
+        )
     }
     0
 }
 
-pub fn on_ledger(l: &mut Words, q: Call, a: &[u64; 12], pages: u64) -> u64
-    requires { Lawful (view l.old) q × Asked q a.now × (pages ≡ size q) }
-    ensures { Kept (view l.old) q result (view l.new) }
+pub fn on_ledger(l: &mut Words, r: &Request, pages: u64) -> u64
+    requires { Lawful (view l.old) r.now × (pages ≡ size r.now) }
+    ensures { Kept (view l.old) r.now result (view l.new) }
 {
-    let number = q.number;
-    match number {
-        3 => fencing::global_fence(l, q.hart),
-        4 => fencing::local_fence(l, q.hart),
-        5 => create(l),
-        15 => entering::enter(l, q.hart, a[TVM], a[VCPU]),
-        16 => fencing::tvm_fence(l, a[TVM]),
-        32 => entering::leave(l, q.hart),
-        _ => on_slots(l, q, a, pages),
+    let hart = r.hart();
+    let tvm = r.arg(Role::Tvm);
+    if r.is(Operation::GlobalFence) {
+        fencing::global_fence(l, hart)
+    } else if r.is(Operation::LocalFence) {
+        fencing::local_fence(l, hart)
+    } else if r.is(Operation::Create) {
+        create(l)
+    } else if r.is(Operation::Enter) {
+        entering::enter(l, hart, tvm, r.arg(Role::Vcpu))
+    } else if r.is(Operation::TvmFence) {
+        fencing::tvm_fence(l, tvm)
+    } else if r.is(Operation::Leave) {
+        entering::leave(l, hart)
+    } else {
+        on_slots(l, r, pages)
     }
 }

@@ -10,26 +10,23 @@ ghost use Rattle.rules.specs.Answers.{answer_of};
 ghost use Rattle.rules.specs.Encoding.{view, pages_of, Numbers, Called};
 ghost use Rattle.ledger.specs.Settled.{Settled, call_with};
 
-use door::asked::asked;
 use door::places::sized;
+use door::request::Request;
 use kept::on_ledger;
 use refusals::number::refusal;
-use rules::tables::row;
 use rules::{Answer, Call};
 use table::on_table;
 use words::Words;
 use words::cells::known;
 
 // Whatever may refuse comes first and writes nothing; then the records, while the ledger is as the call found it; then the ledger.
-fn settle(l: &mut Words, t: &mut [u8], q: Call) -> Answer
-    ensures { Settled (view l.old) (pages_of t.old) q (answer_of result) (view l.new) (pages_of t.new) }
+fn settle(l: &mut Words, t: &mut [u8], r: &Request) -> Answer
+    ensures { Settled (view l.old) (pages_of t.old) r.now (answer_of result) (view l.new) (pages_of t.new) }
 {
-    let row = row(q.number);
-    let a = asked(q, row);
-    refusal(&*l, &*t, q, &a, row)?;
-    let pages = sized(q, &a);
-    on_table(&*l, &mut *t, q, &a, pages);
-    Ok(on_ledger(l, q, &a, pages))
+    refusal(&*l, &*t, r)?;
+    let pages = sized(r);
+    on_table(&*l, &mut *t, r, pages);
+    Ok(on_ledger(l, r, pages))
 }
 
 fn size(t: &[u8]) -> usize
@@ -60,7 +57,7 @@ pub fn call(
 ) -> Answer
     ensures { Called ledger.old table.old (call_with number hart a0 a1 a2 a3 a4 a5) (answer_of result) ledger.new table.new }
 {
-    let q = Call {
+    let request = Request::new(Call {
         number,
         hart,
         a0,
@@ -69,8 +66,8 @@ pub fn call(
         a3,
         a4,
         a5,
-    };
-    let answer = settle(&mut *ledger, &mut *table, q);
+    });
+    let answer = settle(&mut *ledger, &mut *table, &request);
     known(&*ledger);
     known_bytes(&*table);
     answer

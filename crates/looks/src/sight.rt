@@ -1,20 +1,20 @@
 // Refusals 6, 7 and 14: what stands in the records that a call names. One look at each page, and one pass for guest pages, finds all three.
-ghost use Rattle.std.specs.Prelude.{◌≡◌, ◌||◌, ◌≤◌, eqb};
+ghost use Rattle.std.specs.Prelude.{◌≡◌, ◌≤◌};
 ghost use Rattle.sets.specs.Terms.{row};
-ghost use Rattle.rules.specs.Calls.{memory, index};
+ghost use Rattle.rules.specs.Calls.{memory, index, moves};
 ghost use Rattle.rules.specs.Encoding.{view, pages_of};
 ghost use Rattle.fences.specs.Trackers.{global_of};
 ghost use Rattle.door.specs.Ready.{Ready};
 ghost use Rattle.looks.specs.Sights.{Seen, InTable, look_at, guests_at};
 
-use door::early::names;
 use door::places::{MEMORY, names_place};
-use door::roles::{DIRECTORY, FREE, GUEST, HOST, TVM};
+use door::request::Request;
 use fences::GlobalTracker;
 use records::guest::AllMapped;
 use records::range::AllWanted;
 use records::{guest, range};
-use rules::Call;
+use rules::Role;
+use rules::numbers::{Kind, Operation};
 use words::{Words, parts, sizes};
 
 // Whether each of the three holds; of 7 and 14 only where 6 does not.
@@ -50,27 +50,31 @@ fn look_at(
     Some(AllWanted { unfinished: false })
 }
 
-pub fn is_move(number: u64) -> bool
-    ensures { result ≡ (eqb number 17 || eqb number 18 || eqb number 19) }
+// 17 to 19.
+pub fn is_move(r: &Request) -> bool
+    ensures { result ≡ moves r.now }
 {
-    (number == 17) | (number == 18) | (number == 19)
+    r.is(Operation::Invalidate) | r.is(Operation::Validate) | r.is(Operation::Remove)
 }
 
 // The kind that the guest pages of 17 to 19 must have.
-fn kind_for(number: u64) -> u8
-    ensures { result ≡ row number 17 7 8 }
+fn kind_for(r: &Request) -> u8
+    ensures { result ≡ row r.now.number 17 7 8 }
 {
-    if number == 17 { 7 } else { 8 }
+    if r.is(Operation::Invalidate) {
+        Kind::Mapped as u8
+    } else {
+        Kind::Blocked as u8
+    }
 }
 
-fn guests_at(l: &Words, t: &[u8], q: Call, a: &[u64; 12], pages: u64) -> Option<AllMapped>
-    requires { Ready l.now t.now q a.now pages }
-    ensures { result ≡ guests_at (view l.now) (pages_of t.now) q }
+fn guests_at(l: &Words, t: &[u8], r: &Request, pages: u64) -> Option<AllMapped>
+    requires { Ready l.now t.now r.now pages }
+    ensures { result ≡ guests_at (view l.now) (pages_of t.now) r.now }
 {
-    let number = q.number;
-    if is_move(number) {
-        let tvm = a[TVM];
-        let first = a[GUEST] / 4096;
+    if is_move(r) {
+        let tvm = r.arg(Role::Tvm);
+        let first = r.arg(Role::GuestBase) / 4096;
         let total = sizes::pages(l);
         let fence = parts::fence(l, tvm);
         return guest::look(
@@ -79,7 +83,7 @@ fn guests_at(l: &Words, t: &[u8], q: Call, a: &[u64; 12], pages: u64) -> Option<
             tvm as u8,
             first as u32,
             pages as u32,
-            kind_for(number),
+            kind_for(r),
             fence,
         );
     }
@@ -89,19 +93,39 @@ fn guests_at(l: &Words, t: &[u8], q: Call, a: &[u64; 12], pages: u64) -> Option<
     })
 }
 
-fn look_at_all(l: &Words, t: &[u8], q: Call, a: &[u64; 12], pages: u64) -> Sight
-    requires { Ready l.now t.now q a.now pages }
-    ensures { Seen (view l.now) (pages_of t.now) q result }
+fn look_at_all(l: &Words, t: &[u8], r: &Request, pages: u64) -> Sight
+    requires { Ready l.now t.now r.now pages }
+    ensures { Seen (view l.now) (pages_of t.now) r.now result }
 {
-    let number = q.number;
     let fence = parts::global(l);
-    let host = look_at(t, names(a, HOST), a[HOST], pages, true, fence);
-    let directory = look_at(t, names(a, DIRECTORY), a[DIRECTORY], 4, false, fence);
-    let free = look_at(t, names(a, FREE), a[FREE], pages, false, fence);
-    let guests = guests_at(l, t, q, a, pages);
+    let host = look_at(
+        t,
+        r.names(Role::HostBase),
+        r.arg(Role::HostBase),
+        pages,
+        true,
+        fence,
+    );
+    let directory = look_at(
+        t,
+        r.names(Role::DirectoryBase),
+        r.arg(Role::DirectoryBase),
+        4,
+        false,
+        fence,
+    );
+    let free = look_at(
+        t,
+        r.names(Role::FreeBase),
+        r.arg(Role::FreeBase),
+        pages,
+        false,
+        fence,
+    );
+    let guests = guests_at(l, t, r, pages);
     let refuses6 = host.is_none() | (directory.is_none() | free.is_none()) | guests.is_none();
     let refuses7 = (directory.is_some_and(|w| w.unfinished) | free.is_some_and(|w| w.unfinished))
-        | (((number == 18) | (number == 19)) & guests.is_some_and(|m| m.undone));
+        | ((r.is(Operation::Validate) | r.is(Operation::Remove)) & guests.is_some_and(|m| m.undone));
     let refuses14 = guests.is_some_and(|m| m.cut);
     Sight {
         refuses6,
@@ -110,12 +134,12 @@ fn look_at_all(l: &Words, t: &[u8], q: Call, a: &[u64; 12], pages: u64) -> Sight
     }
 }
 
-pub fn look(l: &Words, t: &[u8], q: Call, a: &[u64; 12], pages: u64) -> Sight
-    requires { Ready l.now t.now q a.now pages }
-    ensures { Seen (view l.now) (pages_of t.now) q result }
+pub fn look(l: &Words, t: &[u8], r: &Request, pages: u64) -> Sight
+    requires { Ready l.now t.now r.now pages }
+    ensures { Seen (view l.now) (pages_of t.now) r.now result }
 {
-    if names_place(q, a) {
-        return look_at_all(l, t, q, a, pages);
+    if names_place(r) {
+        return look_at_all(l, t, r, pages);
     }
     Sight {
         refuses6: false,

@@ -5,7 +5,7 @@ use mathlib.Core.Path.{◌≡◌, refl, sym}
 use mathlib.Core.Bool.{Bool, true, false, ◌&&◌, ◌||◌}
 use mathlib.Core.List.{List}
 use lib.Dec.{eqb}
-use borrow.Author.Tests.{le-ltb, ne_eqb}
+use borrow.Author.Tests.{le-ltb}
 use Rattle.sets.proofs.Bools.{or_false}
 use Rattle.rules.specs.Encoding.{view, view_of}
 use Rattle.seats.specs.Harts.{there_of}
@@ -23,9 +23,6 @@ module _ (k j n : ℕ) (a b : Bool) where
 
   pub at_second : eqb j j ≡ true → eqb j k ≡ false → n ≡ j → b ≡ (eqb n k && a || eqb n j && b)
   at_second s d e = rw (e, s, d)
-
-  pub at_neither : (n ≡ k → ⊥) → (n ≡ j → ⊥) → false ≡ (eqb n k && a || eqb n j && b)
-  at_neither nk nj = rw (ne_eqb n k nk, ne_eqb n j nj)
 
 -- a test before three
 pub before_three : (x a b d : Bool) → (x || (a || b || d)) ≡ (x || a || b || d)

@@ -3,10 +3,10 @@ ghost use Rattle.std.specs.Prelude.{◌≡◌};
 ghost use Rattle.rules.specs.Fence.{someone};
 ghost use Rattle.rules.specs.Refusals as n;
 ghost use Rattle.rules.specs.Encoding.{view, pages_of, bits};
-ghost use Rattle.door.specs.Asked.{Asked};
 
-use door::roles::TVM;
-use rules::Call;
+use door::request::Request;
+use rules::Role;
+use rules::numbers::Operation;
 use words::{Words, parts};
 
 pub fn is_awaited(awaited: u8) -> bool
@@ -15,26 +15,18 @@ pub fn is_awaited(awaited: u8) -> bool
     awaited != 0
 }
 
-pub fn refuses8(l: &Words, t: &[u8], q: Call, a: &[u64; 12]) -> bool
-    requires { Asked q a.now }
-    ensures { result ≡ n.refuses8 (view l.now) (pages_of t.now) q }
+#[tactic(auto, unfolding(rules::specs::Refusals::refuses8))]
+pub fn refuses8(l: &Words, t: &[u8], r: &Request) -> bool
+    ensures { result ≡ n.refuses8 (view l.now) (pages_of t.now) r.now }
 {
-    let number = q.number;
-    match number {
-        3 => is_awaited(parts::global(l).awaited),
-        16 => is_awaited(parts::fence(l, a[TVM]).awaited),
-        _ => false,
-    }
+    (r.is(Operation::GlobalFence) && is_awaited(parts::global(l).awaited))
+        || (r.is(Operation::TvmFence) && is_awaited(parts::fence(l, r.arg(Role::Tvm)).awaited))
 }
 
-pub fn refuses13(l: &Words, t: &[u8], q: Call, a: &[u64; 12]) -> bool
-    requires { Asked q a.now }
-    ensures { result ≡ n.refuses13 (view l.now) (pages_of t.now) q }
+#[tactic(auto, unfolding(rules::specs::Refusals::refuses13))]
+pub fn refuses13(l: &Words, t: &[u8], r: &Request) -> bool
+    ensures { result ≡ n.refuses13 (view l.now) (pages_of t.now) r.now }
 {
-    let number = q.number;
-    match number {
-        3 => 65535 <= parts::global(l).version.0,
-        16 => 65534 <= parts::fence(l, a[TVM]).version.0,
-        _ => false,
-    }
+    (r.is(Operation::GlobalFence) && 65535 <= parts::global(l).version.0)
+        || (r.is(Operation::TvmFence) && 65534 <= parts::fence(l, r.arg(Role::Tvm)).version.0)
 }

@@ -1,16 +1,17 @@
 // Refusals 12 and 15: who is inside what.
 ghost use Rattle.std.specs.Prelude.{◌≡◌};
 ghost use Rattle.rules.specs.Ledger.{is_outside};
+ghost use Rattle.rules.specs.declared.Role.TheVariants.{Tvm, Vcpu};
+ghost use Rattle.rules.specs.Calls.{arg};
 ghost use Rattle.rules.specs.Refusals as n;
 ghost use Rattle.rules.specs.Encoding.{view, pages_of, bits};
 ghost use Rattle.words.specs.Parts.{place_is};
-ghost use Rattle.door.specs.Asked.{Asked};
 ghost use Rattle.seats.specs.Harts.{is_there, there_of, busy_by};
 
 use super::fencing::is_awaited;
 use door::early::is_made;
-use door::roles::{TVM, VCPU};
-use rules::Call;
+use door::request::Request;
+use rules::Role;
 use rules::numbers::Operation;
 use words::parts::Place;
 use words::{Words, parts};
@@ -52,34 +53,28 @@ pub fn there(l: &Words, whole: bool, k: u64, v: u64) -> u8
 }
 
 // What refuses 8, 14 and 15 besides: somebody inside, a vCPU that is made, one that runs.
-fn is_busy(l: &Words, number: u64, tvm: u64, vcpu: u64) -> bool
-    ensures { result ≡ busy_by (view l.now) number tvm vcpu }
+fn is_busy(l: &Words, r: &Request) -> bool
+    ensures { result ≡ busy_by (view l.now) r.now.number (arg Tvm r.now) (arg Vcpu r.now) }
 {
-    match number {
-        8 => is_awaited(there(l, true, tvm, vcpu)),
-        14 => is_made(l, tvm, vcpu),
-        15 => is_awaited(there(l, false, tvm, vcpu)),
-        _ => false,
-    }
+    let tvm = r.arg(Role::Tvm);
+    let vcpu = r.arg(Role::Vcpu);
+    (r.is(Operation::Vcpu) && is_made(l, tvm, vcpu))
+        || (r.is(Operation::Enter) && is_awaited(there(l, false, tvm, vcpu)))
+        || (r.is(Operation::Destroy) && is_awaited(there(l, true, tvm, vcpu)))
 }
 
-pub fn refuses12(l: &Words, t: &[u8], q: Call, a: &[u64; 12]) -> bool
-    requires { Asked q a.now }
-    ensures { result ≡ n.refuses12 (view l.now) (pages_of t.now) q }
+#[tactic(auto, using(crate::proofs::Seats::before_three), unfolding(rules::specs::Refusals::refuses12, sets::specs::Terms::one_of, sets::specs::Terms::one_from))]
+pub fn refuses12(l: &Words, t: &[u8], r: &Request) -> bool
+    ensures { result ≡ n.refuses12 (view l.now) (pages_of t.now) r.now }
 {
-    let number = q.number;
-    let tvm = a[TVM];
-    let vcpu = a[VCPU];
-    let outside = is_outside(l, q.hart);
-    let busy = is_busy(l, number, tvm, vcpu);
-    (!(number == Operation::Leave as u64) & !outside) | busy
+    let outside = is_outside(l, r.hart());
+    let busy = is_busy(l, r);
+    (!r.is(Operation::Leave) & !outside) | busy
 }
 
-pub fn refuses15(l: &Words, t: &[u8], q: Call) -> bool
-    ensures { result ≡ n.refuses15 (view l.now) (pages_of t.now) q }
+#[tactic(auto, unfolding(rules::specs::Refusals::refuses15))]
+pub fn refuses15(l: &Words, t: &[u8], r: &Request) -> bool
+    ensures { result ≡ n.refuses15 (view l.now) (pages_of t.now) r.now }
 {
-    if q.number == Operation::Leave as u64 {
-        return is_outside(l, q.hart);
-    }
-    false
+    r.is(Operation::Leave) && is_outside(l, r.hart())
 }

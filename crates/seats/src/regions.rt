@@ -7,9 +7,8 @@ ghost use Rattle.words.specs.Parts.{region_of};
 ghost use Rattle.door.specs.Ready.{Ready};
 ghost use Rattle.seats.specs.Regions.{meets};
 
-use door::early::names;
-use door::roles::{GUEST, TVM, TYPE};
-use rules::Call;
+use door::request::Request;
+use rules::Role;
 use rules::numbers::Operation;
 use words::parts::Region;
 use words::{Words, parts};
@@ -54,17 +53,17 @@ fn meets_any(l: &Words, k: u64, whole: bool, first: u64, pages: u64) -> bool
     (0..8).any(|i| is_met(l, k, i, whole, first, pages))
 }
 
-pub fn refuses10(l: &Words, t: &[u8], q: Call, a: &[u64; 12], pages: u64) -> bool
-    requires { Ready l.now t.now q a.now pages }
-    ensures { result ≡ n.refuses10 (view l.now) (pages_of t.now) q }
+#[tactic(auto, using(door::proofs::Ready::guest_fits, door::proofs::Ready::region_guest, door::proofs::Ready::region_untyped, door::proofs::Ready::typed_guest), unfolding(rules::specs::Refusals::refuses10))]
+pub fn refuses10(l: &Words, t: &[u8], r: &Request, pages: u64) -> bool
+    requires { Ready l.now t.now r.now pages }
+    ensures { result ≡ n.refuses10 (view l.now) (pages_of t.now) r.now }
 {
-    let number = q.number;
-    let tvm = a[TVM];
-    let first = a[GUEST] / 4096;
-    if number == Operation::Region as u64 {
+    let tvm = r.arg(Role::Tvm);
+    let first = r.arg(Role::GuestBase) / 4096;
+    if r.is(Operation::Region) {
         return meets_any(l, tvm, false, first, pages);
     }
-    if names(a, TYPE) {
+    if r.names(Role::UnitType) {
         return !meets_any(l, tvm, true, first, pages);
     }
     false

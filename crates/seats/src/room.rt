@@ -3,12 +3,11 @@ ghost use Rattle.std.specs.Prelude.{◌≡◌};
 ghost use Rattle.sets.specs.Look.{lowest};
 ghost use Rattle.rules.specs.Refusals as n;
 ghost use Rattle.rules.specs.Encoding.{view, pages_of};
-ghost use Rattle.door.specs.Asked.{Asked};
 ghost use Rattle.seats.specs.Room.{found};
 
-use door::roles::TVM;
-use rules::Call;
-use rules::numbers::Phase;
+use door::request::Request;
+use rules::Role;
+use rules::numbers::{Operation, Phase};
 use words::{Words, parts};
 
 fn is_takeable(l: &Words, k: u64) -> bool
@@ -40,14 +39,15 @@ pub fn unused(l: &Words, k: u64) -> Option<u64>
     (0..8).find(|i| is_unused(l, k, *i))
 }
 
-pub fn refuses9(l: &Words, t: &[u8], q: Call, a: &[u64; 12]) -> bool
-    requires { Asked q a.now }
-    ensures { result ≡ n.refuses9 (view l.now) (pages_of t.now) q }
+#[tactic(auto, unfolding(rules::specs::Refusals::refuses9))]
+pub fn refuses9(l: &Words, t: &[u8], r: &Request) -> bool
+    ensures { result ≡ n.refuses9 (view l.now) (pages_of t.now) r.now }
 {
-    let number = q.number;
-    match number {
-        5 => taken(l).is_none(),
-        9 => unused(l, a[TVM]).is_none(),
-        _ => false,
+    if r.is(Operation::Create) {
+        return taken(l).is_none();
     }
+    if r.is(Operation::Region) {
+        return unused(l, r.arg(Role::Tvm)).is_none();
+    }
+    false
 }

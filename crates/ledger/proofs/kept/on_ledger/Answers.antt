@@ -1,6 +1,5 @@
-use native.Mathlib.Omega.{arith}
-use mathlib.Core.Path.{◌∙◌}
-use borrow.Author.Tests.{ne_eqb}
+use mathlib.Core.Path.{sym, ◌∙◌}
+use borrow.Author.Tests.{eqb-true}
 use Rattle.sets.specs.Terms.{one_of, one_from}
 use Rattle.rules.specs.declared.Role.TheVariants.{Tvm, Vcpu}
 use Rattle.rules.specs.Calls.{entry_of}
@@ -12,59 +11,57 @@ use Rattle.ledger.proofs.kept.on_ledger.Goals as goal
 pub global_fence-requires : goal.global_fence-requires
 global_fence-requires c =
     let p = c.requires.0 in
-    let q = c.args.q in
-    let e = c.in-3.is in
-    (hart-small _ q p (rw e), harts-small _ q p (rw e), global-version _ q p e)
+    let q = c.args.r.now in
+    let e = (eqb-true _ 3 (sym c.is.ensures ∙ c.if-is.true)) in
+    (rw c.hart-hart.ensures (hart-small _ q p (rw e)), harts-small _ q p (rw e), global-version _ q p e)
 
 pub local_fence-requires : goal.local_fence-requires
-local_fence-requires c = hart-small _ c.args.q c.requires.0 (rw c.in-4.is)
+local_fence-requires c = rw c.hart-hart.ensures (hart-small _ c.args.r.now c.requires.0 (rw (eqb-true _ 4 (sym c.is-else-is.ensures ∙ c.if-is-2.true))))
 
 pub create-requires : goal.create-requires
-create-requires c = slot_free _ c.args.q c.requires.0 c.in-5.is
+create-requires c = slot_free _ c.args.r.now c.requires.0 (eqb-true _ 5 (sym c.is-else-is-2.ensures ∙ c.if-is-3.true))
 
 pub enter-requires : goal.enter-requires
 unfolding entry_of one_of one_from
 enter-requires c =
     let p = c.requires.0 in
-    let q = c.args.q in
-    let e = c.in-15.is in
-    (hart-small _ q p (rw e), rw (c.requires.1.value Tvm) (tvm_low _ q p (named_at 15 Tvm q e)), rw (c.requires.1.value Vcpu) (vcpu_low _ q p (named_at 15 Vcpu q e)))
+    let q = c.args.r.now in
+    let e = (eqb-true _ 15 (sym c.is-else-is-3.ensures ∙ c.if-is-4.true)) in
+    (rw c.hart-hart.ensures (hart-small _ q p (rw e)), rw (c.arg-tvm.ensures) (tvm_low _ q p (named_at 15 Tvm q e)), rw (c.arg.ensures) (vcpu_low _ q p (named_at 15 Vcpu q e)))
 
 pub tvm_fence-requires : goal.tvm_fence-requires
 unfolding entry_of one_of one_from
 tvm_fence-requires c =
     let p = c.requires.0 in
-    let q = c.args.q in
-    let e = c.in-16.is in
-    rw (c.requires.1.value Tvm) (tvm_low _ q p (named_at 16 Tvm q e), slot-version _ q p e)
+    let q = c.args.r.now in
+    let e = (eqb-true _ 16 (sym c.is-else-is-4.ensures ∙ c.if-is-5.true)) in
+    rw (c.arg-tvm.ensures) (tvm_low _ q p (named_at 16 Tvm q e), slot-version _ q p e)
 
 pub leave-requires : goal.leave-requires
 leave-requires c =
     let p = c.requires.0 in
-    let q = c.args.q in
-    let e = c.in-32.is in
-    (hart-small _ q p (rw e), is-inside _ q p e)
+    let q = c.args.r.now in
+    let e = (eqb-true _ 32 (sym c.is-else-is-5.ensures ∙ c.if-is-6.true)) in
+    rw c.hart-hart.ensures (hart-small _ q p (rw e), is-inside _ q p e)
 
 pub on_slots-requires : goal.on_slots-requires
 unfolding one_of one_from
-on_slots-requires c =
-    let n = c.args.q.number in
-    (c.requires.0, c.requires.1, c.requires.2, rw (ne_eqb n 3 (omega arith), ne_eqb n 4 (omega arith), ne_eqb n 5 (omega arith), ne_eqb n 15 (omega arith), ne_eqb n 16 (omega arith), ne_eqb n 32 (omega arith)))
+on_slots-requires c = (c.requires.0, c.requires.1, rw (sym c.is.ensures ∙ c.if-is.false, sym c.is-else-is.ensures ∙ c.if-is-2.false, sym c.is-else-is-2.ensures ∙ c.if-is-3.false, sym c.is-else-is-3.ensures ∙ c.if-is-4.false, sym c.is-else-is-4.ensures ∙ c.if-is-5.false, sym c.is-else-is-5.ensures ∙ c.if-is-6.false))
 
-pub returns-in-3 : goal.returns-in-3
-returns-in-3 c = kept _ _ (call_3 _ c.args.q c.in-3.is) c.global_fence.ensures.0 c.global_fence.ensures.1
+pub returns-then-is : goal.returns-then-is
+returns-then-is c = kept _ _ (call_3 _ c.args.r.now (eqb-true _ 3 (sym c.is.ensures ∙ c.if-is.true))) (c.global_fence.ensures.0 ∙ rw c.hart-hart.ensures) (c.global_fence.ensures.1 ∙ rw c.hart-hart.ensures)
 
-pub returns-in-4 : goal.returns-in-4
-returns-in-4 c = kept _ _ (call_4 _ c.args.q c.in-4.is) c.local_fence.ensures.0 c.local_fence.ensures.1
+pub returns-then-is-2 : goal.returns-then-is-2
+returns-then-is-2 c = kept _ _ (call_4 _ c.args.r.now (eqb-true _ 4 (sym c.is-else-is.ensures ∙ c.if-is-2.true))) (c.local_fence.ensures.0 ∙ rw c.hart-hart.ensures) (c.local_fence.ensures.1 ∙ rw c.hart-hart.ensures)
 
-pub returns-in-5 : goal.returns-in-5
-returns-in-5 c = kept _ _ (call_5 _ c.args.q c.in-5.is) c.create.ensures.0 c.create.ensures.1
+pub returns-then-is-3 : goal.returns-then-is-3
+returns-then-is-3 c = kept _ _ (call_5 _ c.args.r.now (eqb-true _ 5 (sym c.is-else-is-2.ensures ∙ c.if-is-3.true))) c.create.ensures.0 c.create.ensures.1
 
-pub returns-in-15 : goal.returns-in-15
-returns-in-15 c = kept _ _ (call_15 _ c.args.q c.in-15.is) (c.enter.ensures.0 ∙ rw (c.requires.1.value Tvm)) (c.enter.ensures.1 ∙ rw (c.requires.1.value Tvm, c.requires.1.value Vcpu))
+pub returns-then-is-4 : goal.returns-then-is-4
+returns-then-is-4 c = kept _ _ (call_15 _ c.args.r.now (eqb-true _ 15 (sym c.is-else-is-3.ensures ∙ c.if-is-4.true))) (c.enter.ensures.0 ∙ rw (c.hart-hart.ensures, c.arg-tvm.ensures)) (c.enter.ensures.1 ∙ rw (c.hart-hart.ensures, c.arg-tvm.ensures, c.arg.ensures))
 
-pub returns-in-16 : goal.returns-in-16
-returns-in-16 c = kept _ _ (call_16 _ c.args.q c.in-16.is) (c.tvm_fence.ensures.0 ∙ rw (c.requires.1.value Tvm)) (c.tvm_fence.ensures.1 ∙ rw (c.requires.1.value Tvm))
+pub returns-then-is-5 : goal.returns-then-is-5
+returns-then-is-5 c = kept _ _ (call_16 _ c.args.r.now (eqb-true _ 16 (sym c.is-else-is-4.ensures ∙ c.if-is-5.true))) (c.tvm_fence.ensures.0 ∙ rw (c.arg-tvm.ensures)) (c.tvm_fence.ensures.1 ∙ rw (c.arg-tvm.ensures))
 
-pub returns-in-32 : goal.returns-in-32
-returns-in-32 c = kept _ _ (call_32 _ c.args.q c.in-32.is) c.leave.ensures.0 c.leave.ensures.1
+pub returns-then-is-6 : goal.returns-then-is-6
+returns-then-is-6 c = kept _ _ (call_32 _ c.args.r.now (eqb-true _ 32 (sym c.is-else-is-5.ensures ∙ c.if-is-6.true))) (c.leave.ensures.0 ∙ rw c.hart-hart.ensures) (c.leave.ensures.1 ∙ rw c.hart-hart.ensures)

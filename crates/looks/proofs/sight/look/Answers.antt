@@ -12,6 +12,6 @@ pub returns : goal.returns
 returns c =
     let l = view c.args.l.now in
     let t = pages_of c.args.t.now in
-    let q = c.args.q in
+    let q = c.args.r.now in
     let e : names_place q ≡ false = sym c.names_place.ensures ∙ c.if-names_place.false in
     record { six = sym (not_6 l t q e); seven = λ _. sym (not_7 l t q e); fourteen = λ _. sym (not_14 l t q e) }

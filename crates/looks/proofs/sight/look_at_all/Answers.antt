@@ -1,8 +1,6 @@
 use borrow.Author.Rules.{rules}
 use mathlib.Core.Path.{◌≡◌, refl, sym, ◌∙◌, ap, subst}
 use mathlib.Core.Bool.{◌&&◌, ◌||◌, true, false}
-use lib.Dec.{eqb}
-use Rattle.rules.specs.declared.Role.TheVariants.{HostBase, FreeBase, DirectoryBase}
 use Rattle.rules.specs.Encoding.{view, pages_of}
 use Rattle.looks.specs.Sights.{Seen, is_unwanted, is_unfinished, is_unready, is_undone, has_cut, look_at}
 use Rattle.door.proofs.Ready.{host_fits, directory_fits, free_fits}
@@ -10,24 +8,23 @@ use Rattle.looks.proofs.Sights.{of_none, of_some, seen}
 use Rattle.looks.proofs.sight.look_at_all.Goals as goal
 
 pub look_at-host-requires : goal.look_at-host-requires
-look_at-host-requires c = λ e. host_fits c.requires (sym (c.names.ensures ∙ c.requires.asked.named HostBase) ∙ e)
+look_at-host-requires c = λ e. rw c.arg.ensures (host_fits c.requires (sym c.names.ensures ∙ e))
 
 pub look_at-directory-requires : goal.look_at-directory-requires
-look_at-directory-requires c = λ e. directory_fits c.requires (sym (c.names-2.ensures ∙ c.requires.asked.named DirectoryBase) ∙ e)
+look_at-directory-requires c = λ e. rw c.arg-2.ensures (directory_fits c.requires (sym c.names-2.ensures ∙ e))
 
 pub look_at-free-requires : goal.look_at-free-requires
-look_at-free-requires c = λ e. free_fits c.requires (sym (c.names-3.ensures ∙ c.requires.asked.named FreeBase) ∙ e)
+look_at-free-requires c = λ e. rw c.arg-3.ensures (free_fits c.requires (sym c.names-3.ensures ∙ e))
 
 pub returns : goal.returns
 returns c =
-    let a = c.requires.asked in
-    let q = c.args.q in
+    let q = c.args.r.now in
     let l = view c.args.l.now in
     let t = pages_of c.args.t.now in
     let fence = c.global-fence.ensures in
-    let host = c.look_at-host.ensures ∙ (λ i. look_at t ((c.names.ensures ∙ a.named HostBase) i) (a.value HostBase i) (c.requires.sized i) true (fence i)) in
-    let directory = c.look_at-directory.ensures ∙ (λ i. look_at t ((c.names-2.ensures ∙ a.named DirectoryBase) i) (a.value DirectoryBase i) 4 false (fence i)) in
-    let free = c.look_at-free.ensures ∙ (λ i. look_at t ((c.names-3.ensures ∙ a.named FreeBase) i) (a.value FreeBase i) (c.requires.sized i) false (fence i)) in
+    let host = c.look_at-host.ensures ∙ (λ i. look_at t (c.names.ensures i) (c.arg.ensures i) (c.requires.sized i) true (fence i)) in
+    let directory = c.look_at-directory.ensures ∙ (λ i. look_at t (c.names-2.ensures i) (c.arg-2.ensures i) 4 false (fence i)) in
+    let free = c.look_at-free.ensures ∙ (λ i. look_at t (c.names-3.ensures i) (c.arg-3.ensures i) (c.requires.sized i) false (fence i)) in
     let guests = c.guests_at-guests.ensures in
     let directory_waits : c.is_some_and.result ≡ is_unfinished c.look_at-directory.result = of_some is_unfinished c.look_at-directory.result c.is_some_and.result _ refl c.is_some_and.ensures (λ w h. search rules) in
     let free_waits : c.is_some_and-2.result ≡ is_unfinished c.look_at-free.result = of_some is_unfinished c.look_at-free.result c.is_some_and-2.result _ refl c.is_some_and-2.ensures (λ w h. search rules) in
@@ -38,6 +35,6 @@ returns c =
           || ((of_none _ _ c.is_none-2.ensures ∙ ap is_unwanted directory) i || (of_none _ _ c.is_none-3.ensures ∙ ap is_unwanted free) i)
           || (of_none _ _ c.is_none-4.ensures ∙ ap is_unready guests) i;
       refuses7 = ((directory_waits ∙ ap is_unfinished directory) i || (free_waits ∙ ap is_unfinished free) i)
-          || (eqb q.number 18 || eqb q.number 19) && (undone ∙ ap is_undone guests) i;
+          || (c.is.ensures i || c.is-2.ensures i) && (undone ∙ ap is_undone guests) i;
       refuses14 = (cut ∙ ap has_cut guests) i;
     })) (seen l t q)
