@@ -1,4 +1,4 @@
-// A word whose binary digits are a set.
+// A word whose binary digits are a set. The sets' functions are written over `Digits` and proved once: they read the digits in a u64 and put them back.
 ghost use Rattle.std.specs.Prelude.{ℕ, ◌≡◌, ◌<◌, ◌≤◌, ◌^◌};
 ghost use Rattle.std.proofs.Common.{rules};
 
@@ -17,6 +17,7 @@ pub trait Digits: Copy {
         requires { word < 2 ^ width }
         ensures { number result ≡ word };
 
+    // What each `impl` must prove.
     ghost in_word: { width ≤ 64 };
 }
 
