@@ -55,7 +55,7 @@ fn with_undone(undone: bool, fence: TvmTracker, version: u16) -> bool
     }
 }
 
-// Some large mapping met so far is cut, or this one.
+// Some large mapping met so far is cut, or this one. (As above a flag is written only where it is raised, which is less work for each record.)
 fn with_cut(cut: bool, p: Page, first: u32, count: u32) -> bool
     requires { first + count ≤ 1048576 }
     ensures { result ≡ (cut || is_cut first count p) }

@@ -17,7 +17,8 @@ pub fn offset(guest: u32, first: u32) -> u32
     (guest % 1048576 + 1048576 - first) % 1048576
 }
 
-// The record claims one of the `count` guest pages of the slot from `first` on. Most records fail one of the first two tests.
+// The record claims one of the `count` guest pages of the slot from `first` on. Most records fail one of the first two tests. (The three numbers stay
+// apart: as a struct each clause would name its three fields in their place, and of the two bounds only the first is every caller's.)
 pub fn claims_in(p: Page, slot: u8, first: u32, count: u32) -> bool
     requires { first + count ≤ 1048576 }
     ensures { result ≡ claims_in slot first count p }

@@ -4,7 +4,6 @@
 use Prim.Native.Nat.{◌-◌, ◌<◌}
 use mathlib.Core.Path.{◌≡◌, sym, ◌∙◌}
 use mathlib.Core.Bool.{true}
-use native.Mathlib.Omega.{arith}
 use Rattle.sets.specs.Pages.{member_in}
 use Rattle.sets.proofs.Bools.{by_test}
 use Rattle.rules.specs.Page.{guest_page}
@@ -26,9 +25,6 @@ mine : (slot first count : ℕ) (p : Page) (claims : Bool) (d : ℕ) → claims 
 mine slot first count p claims d e own o =
     let w = claimed_in slot first count p (sym e ∙ own) in
     (sym e ∙ own, o ∙ offset_is p.guest first w.0, w.1)
-
-pub insert-requires : goal.insert-requires
-insert-requires c = let m = mine c.args.slot c.args.first c.args.count c.args.p c.claims_in.result c.offset.result c.claims_in.ensures c.if-not-claims_in.false c.offset.ensures in omega (arith, m.1, m.2)
 
 pub returns : goal.returns
 unfolding is_new noted

