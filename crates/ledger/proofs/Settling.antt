@@ -1,10 +1,9 @@
 -- A call that nothing refuses, and one that something does, settled.
 -- Assumes nothing.
-use Prim.Native.Nat.{ℕ, zero, suc}
+use Prim.Native.Nat.{ℕ, suc}
 use mathlib.Core.Path.{◌≡◌, refl, sym, ◌∙◌, ap}
 use mathlib.Core.Bool.{Bool, true, false}
 use mathlib.Core.List.{List, [], ◌∷◌, ◌++◌}
-use native.Mathlib.Omega.{arith}
 use Rattle.rules.specs.Page.{Table}
 use Rattle.rules.specs.Ledger.{Ledger}
 use Rattle.rules.specs.declared.Call.{Call}
@@ -16,23 +15,6 @@ use Rattle.rules.specs.Step.{Accepted, Refused, Outcome, settle, step}
 use Rattle.rules.specs.Answers.{number_of}
 use Rattle.ledger.specs.Settled.{state, Settled}
 
-never_0 : (why : Refusal) → number_of why ≡ 0 → ⊥
-never_0 UnknownCall e = absurd (omega arith)
-never_0 NoTvm e = absurd (omega arith)
-never_0 WrongPhase e = absurd (omega arith)
-never_0 OutOfRange e = absurd (omega arith)
-never_0 Address e = absurd (omega arith)
-never_0 WrongKind e = absurd (omega arith)
-never_0 NotDone e = absurd (omega arith)
-never_0 StillAwaited e = absurd (omega arith)
-never_0 NoRoom e = absurd (omega arith)
-never_0 WrongRegion e = absurd (omega arith)
-never_0 AlreadyMapped e = absurd (omega arith)
-never_0 Occupied e = absurd (omega arith)
-never_0 VersionsSpent e = absurd (omega arith)
-never_0 LargeMappingCut e = absurd (omega arith)
-never_0 LeftOutside e = absurd (omega arith)
-
 module _ (l : Ledger) (t : Table) (c : Call) where
   pub accepted : (v : ℕ) (l' : Ledger) (t' : Table) → refusal l t c ≡ 0 → v ≡ value l t c → l' ≡ ledger l t c → t' ≡ table l t c → Settled l t c (Accepted v) l' t'
   unfolding step
@@ -40,15 +22,29 @@ module _ (l : Ledger) (t : Table) (c : Call) where
       let q : settle (refusal l t c) (state l t) c ≡ settle 0 (state l t) c = ap (λ (n : ℕ). settle n (state l t) c) e in
       record { answer = ap Accepted f ∙ sym (ap (λ (o : Outcome). o.answer) q); after = (λ i. state (g i) (h i)) ∙ sym (ap (λ (o : Outcome). o.after) q) }
 
-  by_number : (n : ℕ) → (n ≡ 0 → ⊥) → settle n (state l t) c ≡ record { after = state l t; answer = Refused n }
-  by_number zero h = absurd (h refl)
-  by_number (suc n) h = refl
+  -- no refusal has the number 0
+  by_number : (why : Refusal) → settle (number_of why) (state l t) c ≡ record { after = state l t; answer = Refused (number_of why) }
+  by_number UnknownCall = refl
+  by_number NoTvm = refl
+  by_number WrongPhase = refl
+  by_number OutOfRange = refl
+  by_number Address = refl
+  by_number WrongKind = refl
+  by_number NotDone = refl
+  by_number StillAwaited = refl
+  by_number NoRoom = refl
+  by_number WrongRegion = refl
+  by_number AlreadyMapped = refl
+  by_number Occupied = refl
+  by_number VersionsSpent = refl
+  by_number LargeMappingCut = refl
+  by_number LeftOutside = refl
 
   pub refused : (why : Refusal) → number_of why ≡ refusal l t c → Settled l t c (Refused (number_of why)) l t
   unfolding step
   refused why e =
       let n = number_of why in
-      let q : settle (refusal l t c) (state l t) c ≡ record { after = state l t; answer = Refused n } = ap (λ (m : ℕ). settle m (state l t) c) (sym e) ∙ by_number n (never_0 why) in
+      let q : settle (refusal l t c) (state l t) c ≡ record { after = state l t; answer = Refused n } = ap (λ (m : ℕ). settle m (state l t) c) (sym e) ∙ by_number why in
       record { answer = sym (ap (λ (o : Outcome). o.answer) q); after = sym (ap (λ (o : Outcome). o.after) q) }
 
   -- none of the first five, where none holds
