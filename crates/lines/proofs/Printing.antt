@@ -1,8 +1,7 @@
--- Part way through a tape: what is written, and what is still to come. Assumes nothing.
+-- Part way through a tape: what is printed, and what is still to come. Assumes nothing.
 use Prim.Native.Nat.{ℕ, suc, ◌+◌, ◌-◌, ◌*◌, ◌/◌, ◌^◌, ◌<◌, ◌≤◌}
-use mathlib.Core.Path.{◌≡◌, refl, sym, ap, subst, ◌∙◌}
-use mathlib.Core.List.{List, [], ◌++◌, append_assoc}
-use native.Mathlib.Nat.{sub-zero}
+use mathlib.Core.Path.{◌≡◌, sym, ap, subst, ◌∙◌}
+use mathlib.Core.List.{List, ◌++◌, append_assoc}
 use native.Mathlib.Numerals.{add-one}
 use native.Mathlib.Omega.{arith}
 use lib.ListN.{length}
@@ -11,7 +10,7 @@ use Rattle.rules.specs.Step.{Answer, State, answers}
 use Rattle.rules.specs.Encoding.{Called, state_of}
 use Rattle.tape.specs.declared.record.Step.{Step}
 use Rattle.tape.specs.declared.record.Step.TheVariants.{Record}
-use Rattle.tape.specs.Tape.{step_of, step_at, args_at, call_of, Reading, onward, read_from, reading}
+use Rattle.tape.specs.Tape.{step_of, step_at, args_at, call_of, Reading, onward, read_from}
 use Rattle.tape.specs.Promises.{Stops}
 use Rattle.tape.specs.Reader.{Takes}
 use Rattle.tape.specs.declared.reader.Reader.{Reader}
@@ -32,9 +31,6 @@ pub record Printing (tape whole ws b : List ℕ) (number at : ℕ) (text : List 
   pub within : at ≤ length tape
   pub few : length text + 33 ≤ 33 * number
   pub all : whole ≡ text ++ on_from tape (state_of ws b) number at
-
-pub begun : (tape ws b : List ℕ) → Printing tape (lines_from 1 (state_of ws b) (reading tape)) ws b 1 0 []
-begun tape ws b = record { first = omega arith; place = refl; within = omega arith; few = omega arith; all = rw sub-zero }
 
 -- the next record: its line, then what comes after it
 next_line : (tape ws b ws' b' : List ℕ) (number at call hart next : ℕ) (a : Answer) → 1 ≤ number → number ≤ length tape / 52
