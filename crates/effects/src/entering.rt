@@ -6,8 +6,7 @@ ghost use Rattle.rules.specs.Fence.{strike};
 ghost use Rattle.rules.specs.Ledger.{with_slot, with_hart, with_fence, inside, outside, is_outside, slot_of, place_number, flushes};
 ghost use Rattle.rules.specs.Encoding.{view};
 
-use fences::lent;
-use words::parts::Place;
+use words::parts::Seat;
 use words::{Words, parts};
 
 // The value is 1 where the hart flushes.
@@ -27,8 +26,9 @@ fn strike_out(l: &mut Words, k: u64, h: u64)
     ensures { view l.new ≡ with_slot k (with_fence (strike h ((view l.old).slot k).fence) ((view l.old).slot k)) (view l.old) }
 {
     if k < 16 {
-        let t = parts::fence(&*l, k);
-        parts::set_fence(l, k, lent::strike_one(t, h as u8));
+        let mut t = parts::fence(&*l, k);
+        t.strike(h as u8);
+        parts::set_fence(l, k, t);
     }
 }
 
@@ -38,8 +38,8 @@ pub fn leave(l: &mut Words, h: u64) -> u64
     ensures { (result ≡ place_number ((view l.old).hart h).place) × (view l.new ≡ with_hart h (record { place = outside; mark = ((view l.old).hart h).mark }) (with_slot (slot_of ((view l.old).hart h).place) (with_fence (strike h ((view l.old).slot (slot_of ((view l.old).hart h).place)).fence) ((view l.old).slot (slot_of ((view l.old).hart h).place))) (view l.old))) }
 {
     match parts::place_of(&*l, h) {
-        Place::Outside => 0,
-        Place::Inside { slot, vcpu } => {
+        None => 0,
+        Some(Seat { slot, vcpu }) => {
             let k = slot as u64;
             strike_out(&mut *l, k, h);
             parts::set_outside(l, h);

@@ -4,7 +4,7 @@ ghost use Rattle.rules.specs.Fence.{begin, strike, number};
 ghost use Rattle.rules.specs.Ledger.{with_global, with_slot, with_fence, others_of, insiders_of};
 ghost use Rattle.rules.specs.Encoding.{view};
 
-use fences::{global_begun, global_struck, how_many, lent};
+use fences::how_many;
 use seats::presence::there;
 use words::{Words, parts, sizes};
 
@@ -15,7 +15,7 @@ pub fn global_fence(l: &mut Words, hart: u64) -> u64
     let harts = sizes::harts(&*l);
     let others = sets::remove(sets::first(harts), hart as u8);
     let g = parts::global(&*l);
-    parts::set_global(l, global_begun(g, others));
+    parts::set_global(l, g.begun(others));
     how_many(others) as u64
 }
 
@@ -24,7 +24,7 @@ pub fn local_fence(l: &mut Words, hart: u64) -> u64
     ensures { (result ≡ number (strike hart (view l.old).global).awaited) × (view l.new ≡ with_global (strike hart (view l.old).global) (view l.old)) }
 {
     let g = parts::global(&*l);
-    let rest = global_struck(g, hart as u8);
+    let rest = g.struck(hart as u8);
     parts::set_global(l, rest);
     how_many(rest.awaited) as u64
 }
@@ -34,7 +34,8 @@ pub fn tvm_fence(l: &mut Words, k: u64) -> u64
     ensures { (result ≡ number (insiders_of (view l.old) k)) × (view l.new ≡ with_slot k (with_fence (begin (insiders_of (view l.old) k) ((view l.old).slot k).fence) ((view l.old).slot k)) (view l.old)) }
 {
     let inside = there(&*l, true, k, 0);
-    let t = parts::fence(&*l, k);
-    parts::set_fence(l, k, lent::begin_one(t, inside));
+    let mut t = parts::fence(&*l, k);
+    t.begin(inside);
+    parts::set_fence(l, k, t);
     how_many(inside) as u64
 }

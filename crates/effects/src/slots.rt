@@ -9,7 +9,7 @@ ghost use Rattle.rules.specs.Encoding.{view};
 ghost use Rattle.fences.specs.Trackers.{tvm_of};
 ghost use Rattle.effects.specs.Parts.{no_region};
 
-use fences::{TvmTracker, tvm_ended};
+use fences::TvmTracker;
 use seats::room::unused;
 use words::parts::Region;
 use words::{Words, parts};
@@ -49,7 +49,7 @@ pub fn destroy(l: &mut Words, k: u64)
     ensures { view l.new ≡ with_slot k (destroyed ((view l.old).slot k)) (view l.old) }
 {
     let t = parts::fence(&*l, k);
-    bare(l, k, 0, tvm_ended(t));
+    bare(l, k, 0, t.ended());
 }
 
 // The region takes the lowest place that has none.

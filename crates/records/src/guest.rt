@@ -9,7 +9,7 @@ ghost use Rattle.records.specs.Passes.{is_new, noted, guest_look, becomes, large
 
 use super::record::{read, write};
 use super::table::{claims_in, offset};
-use fences::{TvmTracker, TvmVersion, tvm_done};
+use fences::{TvmTracker, TvmVersion};
 use rules::Page;
 
 // What a look over a guest range finds: a page that is not mapped or not as wanted; or all there, with a version that is not done, or a large
@@ -50,7 +50,7 @@ fn is_cut(p: Page, first: u32, count: u32) -> bool
 fn with_undone(undone: bool, fence: TvmTracker, version: u16) -> bool
     ensures { result ≡ (undone || not (done (tvm_of fence) version)) }
 {
-    if tvm_done(fence, TvmVersion(version)) {
+    if fence.done(TvmVersion(version)) {
         undone
     } else {
         true

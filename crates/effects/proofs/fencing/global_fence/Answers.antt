@@ -9,8 +9,8 @@ use Rattle.rules.proofs.HartSets.{bits_others}
 use Rattle.fences.specs.Trackers.{global_of}
 use Rattle.effects.proofs.fencing.global_fence.Goals as goal
 
-pub global_begun-requires : goal.global_begun-requires
-global_begun-requires c =
+pub begun-requires : goal.begun-requires
+begun-requires c =
     let v : c.global-g.result.version.0 ≡ (view c.args.l.now).global.version = λ i. (c.global-g.ensures i).version in
     let h : c.global-g.result.version.0 < 65535 = rw v c.requires.2 in
     search rules
@@ -21,4 +21,4 @@ returns c =
     let others : bits c.remove-others.result ≡ others_of l c.args.hart =
     ap bits (c.remove-others.ensures ∙ (λ i. without ((c.first.ensures ∙ ap full c.harts-harts.ensures) i) c.args.hart)) ∙ bits_others l.harts c.args.hart in
     let g = c.global-g.ensures in
-    (c.how_many.ensures ∙ ap number others, c.set_global.ensures ∙ (λ i. with_global (global_of (c.global_begun.ensures i)) l) ∙ (λ i. with_global (begin (others i) (g i)) l))
+    (c.how_many.ensures ∙ ap number others, c.set_global.ensures ∙ (λ i. with_global (global_of (c.begun.ensures i)) l) ∙ (λ i. with_global (begin (others i) (g i)) l))

@@ -8,8 +8,8 @@ use Rattle.rules.specs.Encoding.{view, bits}
 use Rattle.fences.specs.Trackers.{tvm_of}
 use Rattle.effects.proofs.fencing.tvm_fence.Goals as goal
 
-pub begin_one-requires : goal.begin_one-requires
-begin_one-requires c =
+pub begin-requires : goal.begin-requires
+begin-requires c =
     let v : c.fence-t.result.version.0 ≡ ((view c.args.l.now).slot c.args.k).fence.version = λ i. (c.fence-t.ensures i).version in
     let h : c.fence-t.result.version.0 < 65535 = rw v (omega (arith, c.requires.1)) in
     search rules
@@ -21,5 +21,5 @@ returns c =
     let inside : bits c.there-inside.result ≡ insiders_of l k = c.there-inside.ensures in
     let f = c.fence-t.ensures in (
       c.how_many.ensures ∙ ap number inside,
-      c.set_fence.ensures ∙ (λ i. with_slot k (with_fence (tvm_of (c.begin_one.ensures i)) (l.slot k)) l) ∙ (λ i. with_slot k (with_fence (begin (inside i) (f i)) (l.slot k)) l),
+      c.set_fence.ensures ∙ (λ i. with_slot k (with_fence (tvm_of (c.begin.ensures i)) (l.slot k)) l) ∙ (λ i. with_slot k (with_fence (begin (inside i) (f i)) (l.slot k)) l),
     )

@@ -9,4 +9,4 @@ pub returns : goal.returns
 returns c =
     let a = c.args in
     let v = view a.l.now in
-    c.bare.ensures ∙ (λ i. with_slot a.k (bare 0 (tvm_of (c.tvm_ended.ensures i))) v) ∙ (λ i. with_slot a.k (bare 0 (record { version = min 65535 ((c.fence-t.ensures i).version + 1); awaited = (c.fence-t.ensures i).awaited })) v)
+    c.bare.ensures ∙ (λ i. with_slot a.k (bare 0 (tvm_of (c.ended.ensures i))) v) ∙ (λ i. with_slot a.k (bare 0 (record { version = min 65535 ((c.fence-t.ensures i).version + 1); awaited = (c.fence-t.ensures i).awaited })) v)
