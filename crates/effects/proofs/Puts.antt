@@ -10,13 +10,10 @@ use borrow.Author.Tests.{eqb-true, eqb-false, eq-eqb, ltb-true, ltb-false, lt-lt
 use Rattle.sets.specs.Terms.{put}
 use Rattle.sets.proofs.Bools.{by_test}
 use Rattle.sets.proofs.Laws.{member_none}
-use Rattle.rules.specs.Fence.{Harts, Tracker, strike}
+use Rattle.rules.specs.Fence.{strike}
 use Rattle.rules.specs.Ledger.{Ledger, Slot, Region, with_slot, with_fence}
 use Rattle.rules.specs.Encoding.{view, view_of, bits}
 use Rattle.effects.specs.Parts.{no_region}
-
-abbrev pub tracker_with : ℕ → Harts → Tracker
-tracker_with version awaited = record { version = version; awaited = awaited }
 
 -- ---- puts
 module _ {A : Type 0} (k : ℕ) (v : A) (f : ℕ → A) where

@@ -4,8 +4,7 @@ ghost use Rattle.rules.specs.Ledger.{is_outside, place_number};
 ghost use Rattle.rules.specs.Encoding.{view};
 ghost use Rattle.effects.specs.Parts.{entered, flushed, left, struck_in};
 
-use fences::lent;
-use words::parts::Place;
+use words::parts::Seat;
 use words::{Words, parts};
 
 // The value is 1 where the hart flushes.
@@ -25,8 +24,9 @@ fn strike_out(l: &mut Words, k: u64, h: u64)
     ensures { view l.new ≡ struck_in k h (view l.old) }
 {
     if k < 16 {
-        let t = parts::fence(&*l, k);
-        parts::set_fence(l, k, lent::strike_one(t, h as u8));
+        let mut t = parts::fence(&*l, k);
+        t.strike(h as u8);
+        parts::set_fence(l, k, t);
     }
 }
 
@@ -36,8 +36,8 @@ pub fn leave(l: &mut Words, h: u64) -> u64
     ensures { (result ≡ place_number ((view l.old).hart h).place) × (view l.new ≡ left h (view l.old)) }
 {
     match parts::place_of(&*l, h) {
-        Place::Outside => 0,
-        Place::Inside { slot, vcpu } => {
+        None => 0,
+        Some(Seat { slot, vcpu }) => {
             let k = slot as u64;
             strike_out(&mut *l, k, h);
             parts::set_outside(l, h);

@@ -5,7 +5,7 @@ ghost use Rattle.rules.specs.Ledger.{others_of, insiders_of};
 ghost use Rattle.rules.specs.Encoding.{view};
 ghost use Rattle.effects.specs.Parts.{begun, begun_in, struck};
 
-use fences::{global_begun, global_struck, how_many, lent};
+use fences::how_many;
 use seats::presence::there;
 use words::{Words, parts, sizes};
 
@@ -16,7 +16,7 @@ pub fn global_fence(l: &mut Words, hart: u64) -> u64
     let harts = sizes::harts(&*l);
     let others = sets::remove(sets::first(harts), hart as usize);
     let g = parts::global(&*l);
-    parts::set_global(l, global_begun(g, others));
+    parts::set_global(l, g.begun(others));
     how_many(others) as u64
 }
 
@@ -25,7 +25,7 @@ pub fn local_fence(l: &mut Words, hart: u64) -> u64
     ensures { (result ≡ number (strike hart (view l.old).global).awaited) × (view l.new ≡ struck hart (view l.old)) }
 {
     let g = parts::global(&*l);
-    let rest = global_struck(g, hart as u8);
+    let rest = g.struck(hart as u8);
     parts::set_global(l, rest);
     how_many(rest.awaited) as u64
 }
@@ -35,7 +35,8 @@ pub fn tvm_fence(l: &mut Words, k: u64) -> u64
     ensures { (result ≡ number (insiders_of (view l.old) k)) × (view l.new ≡ begun_in k (view l.old)) }
 {
     let inside = there(&*l, true, k, 0);
-    let t = parts::fence(&*l, k);
-    parts::set_fence(l, k, lent::begin_one(t, inside));
+    let mut t = parts::fence(&*l, k);
+    t.begin(inside);
+    parts::set_fence(l, k, t);
     how_many(inside) as u64
 }

@@ -8,7 +8,7 @@ ghost use Rattle.rules.specs.Encoding.{view};
 ghost use Rattle.fences.specs.Trackers.{tvm_of};
 ghost use Rattle.effects.specs.Parts.{added, cleared, peopled};
 
-use fences::{TvmTracker, tvm_ended};
+use fences::TvmTracker;
 use rules::numbers::Phase;
 use seats::room::unused;
 use words::parts::Region;
@@ -47,7 +47,7 @@ pub fn destroy(l: &mut Words, k: u64)
     ensures { view l.new ≡ with_slot k (destroyed ((view l.old).slot k)) (view l.old) }
 {
     let t = parts::fence(&*l, k);
-    bare(l, k, Phase::Empty as u32, tvm_ended(t));
+    bare(l, k, Phase::Empty as u32, t.ended());
 }
 
 // The region takes the lowest place that has none.

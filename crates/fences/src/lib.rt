@@ -3,127 +3,130 @@
 
 #![tactic(auto)]
 
-ghost use Rattle.std.specs.Prelude.{◌≡◌, ◌+◌, ◌<◌, min};
-ghost use Rattle.rules.specs.Fence.{done, number};
+ghost use Rattle.std.specs.Prelude.{◌≡◌, ℕ, ◌+◌, ◌<◌, refl};
+ghost use Rattle.rules.specs.Fence.{done, number as how_many};
 ghost use Rattle.rules.specs.Ledger.{flushes as flushes_at};
 ghost use Rattle.rules.specs.Encoding.{bits};
-ghost use Rattle.fences.specs.Trackers.{global_of, tvm_of, tracker_at, mark_of, global_begun, global_struck, tvm_begun, tvm_struck, tvm_ended};
+ghost use Rattle.fences.specs.Trackers.{tracked, begun, struck, mark_of, tvm_ended};
 
 pub mod lent;
 
-#[derive(Clone, Copy)]
+// A version of one sort of fence: a number in a type of its own.
+pub trait Version: Copy {
+    ghost number: { Self → ℕ };
+
+    ghost numbered: { ℕ → Self };
+
+    fn number(self) -> u16
+        ensures { result ≡ number self };
+
+    fn new(n: u16) -> Self
+        ensures { result ≡ numbered n };
+
+    // A version has the number that it was made with.
+    ghost keeps: { (n : ℕ) → number (numbered n) ≡ n };
+}
+
+#[derive(Clone, Copy, PartialEq, Eq, PartialOrd, Ord)]
 pub struct GlobalVersion(pub u16);
 
-#[derive(Clone, Copy)]
+#[derive(Clone, Copy, PartialEq, Eq, PartialOrd, Ord)]
 pub struct TvmVersion(pub u16);
+
+impl Version for GlobalVersion {
+    ghost number = { λ v. v.0 };
+
+    ghost numbered = { λ n. record { 0 = n } };
+
+    ghost keeps = { λ n. refl };
+
+    fn number(self) -> u16 {
+        self.0
+    }
+
+    fn new(n: u16) -> GlobalVersion {
+        GlobalVersion(n)
+    }
+}
+
+impl Version for TvmVersion {
+    ghost number = { λ v. v.0 };
+
+    ghost numbered = { λ n. record { 0 = n } };
+
+    ghost keeps = { λ n. refl };
+
+    fn number(self) -> u16 {
+        self.0
+    }
+
+    fn new(n: u16) -> TvmVersion {
+        TvmVersion(n)
+    }
+}
 
 // The present version, and the awaited harts as a set in a byte.
 #[derive(Clone, Copy)]
-pub struct GlobalTracker {
-    pub version: GlobalVersion,
+pub struct Tracker<V> {
+    pub version: V,
     pub awaited: u8,
 }
 
-#[derive(Clone, Copy)]
-pub struct TvmTracker {
-    pub version: TvmVersion,
-    pub awaited: u8,
-}
+pub type GlobalTracker = Tracker<GlobalVersion>;
 
-// The version at a hart's last flush for a slot, or never.
-#[derive(Clone, Copy)]
-pub enum Mark {
-    Never,
-    At(TvmVersion),
-}
+pub type TvmTracker = Tracker<TvmVersion>;
 
 // The reported value: how many harts are in the set.
 pub fn how_many(awaited: u8) -> u32
-    ensures { result ≡ number (bits awaited) }
+    ensures { result ≡ how_many (bits awaited) }
 {
     sets::size(awaited)
 }
 
-// The present version is past the recorded one, and nobody is awaited where it is so by one alone. (r + 2 may not fit a u16.)
-fn past(present: u16, awaited: u8, r: u16) -> bool
-    ensures { result ≡ done (tracker_at present awaited) r }
-{
-    if present <= r {
-        return false;
+impl<V: Version> Tracker<V> {
+    // "A version recorded as r is done when the present version is at least r + 2, or is r + 1 with no hart awaited."
+    pub fn done(self, recorded: V) -> bool
+        ensures { result ≡ done (tracked V.number self) (V.number recorded) }
+    {
+        match self.version.number().saturating_sub(recorded.number()) {
+            0 => false,
+            1 => self.awaited == 0,
+            _ => true,
+        }
     }
-    if present - r >= 2 {
-        return true;
+
+    pub fn begun(self, awaited: u8) -> Tracker<V>
+        requires { V.number self.version < 65535 }
+        ensures { result ≡ begun V.number V.numbered self awaited }
+    {
+        let version = V::new(self.version.number() + 1);
+        Tracker { version, awaited }
     }
-    awaited == 0
+
+    pub fn struck(self, hart: u8) -> Tracker<V>
+        requires { hart < 8 }
+        ensures { result ≡ struck self hart }
+    {
+        let version = self.version;
+        let awaited = sets::remove(self.awaited, hart as usize);
+        Tracker { version, awaited }
+    }
 }
 
-pub fn global_done(g: GlobalTracker, r: GlobalVersion) -> bool
-    ensures { result ≡ done (global_of g) r.0 }
-{
-    past(g.version.0, g.awaited, r.0)
+impl Tracker<TvmVersion> {
+    // "Destroy adds 1 (65,535 stays)".
+    pub fn ended(self) -> TvmTracker
+        ensures { result ≡ tvm_ended self }
+    {
+        let version = TvmVersion(self.version.0.saturating_add(1));
+        let awaited = self.awaited;
+        Tracker { version, awaited }
+    }
 }
 
-pub fn tvm_done(t: TvmTracker, r: TvmVersion) -> bool
-    ensures { result ≡ done (tvm_of t) r.0 }
-{
-    past(t.version.0, t.awaited, r.0)
-}
-
-pub fn global_begun(g: GlobalTracker, awaited: u8) -> GlobalTracker
-    requires { g.version.0 < 65535 }
-    ensures { result ≡ global_begun g awaited }
-{
-    let version = GlobalVersion(g.version.0 + 1);
-    GlobalTracker { version, awaited }
-}
-
-pub fn tvm_begun(t: TvmTracker, awaited: u8) -> TvmTracker
-    requires { t.version.0 < 65535 }
-    ensures { result ≡ tvm_begun t awaited }
-{
-    let version = TvmVersion(t.version.0 + 1);
-    TvmTracker { version, awaited }
-}
-
-pub fn global_struck(g: GlobalTracker, hart: u8) -> GlobalTracker
-    requires { hart < 8 }
-    ensures { result ≡ global_struck g hart }
-{
-    let version = g.version;
-    let awaited = sets::remove(g.awaited, hart as usize);
-    GlobalTracker { version, awaited }
-}
-
-pub fn tvm_struck(t: TvmTracker, hart: u8) -> TvmTracker
-    requires { hart < 8 }
-    ensures { result ≡ tvm_struck t hart }
-{
-    let version = t.version;
-    let awaited = sets::remove(t.awaited, hart as usize);
-    TvmTracker { version, awaited }
-}
-
-// "Destroy adds 1 (65,535 stays)".
-fn next(version: u16) -> u16
-    ensures { result ≡ min 65535 (version + 1) }
-{
-    if version == 65535 { 65535 } else { version + 1 }
-}
-
-pub fn tvm_ended(t: TvmTracker) -> TvmTracker
-    ensures { result ≡ tvm_ended t }
-{
-    let version = TvmVersion(next(t.version.0));
-    let awaited = t.awaited;
-    TvmTracker { version, awaited }
-}
-
-// Entry flushes exactly when the hart's mark is not the slot's version.
-pub fn flushes(mark: Mark, version: TvmVersion) -> bool
+// Entry flushes exactly when the hart's mark, the version at its last flush for the slot, is not the slot's version.
+pub fn flushes(mark: Option<TvmVersion>, version: TvmVersion) -> bool
     ensures { result ≡ flushes_at (mark_of mark) version.0 }
 {
-    match mark {
-        Mark::Never => true,
-        Mark::At(at) => at.0 != version.0,
-    }
+    mark != Some(version)
 }

@@ -9,7 +9,7 @@ ghost use Rattle.records.specs.Passes.{is_new, noted, guest_look, becomes, large
 
 use super::record::{FREE, read, write};
 use super::table::{claims_in, offset};
-use fences::{TvmTracker, TvmVersion, tvm_done};
+use fences::{TvmTracker, TvmVersion};
 use rules::Page;
 use rules::numbers::Kind;
 use sets::pages::PageSet;
@@ -48,7 +48,7 @@ fn is_cut(p: Page, first: u32, count: u32) -> bool
 fn with_undone(undone: bool, fence: TvmTracker, version: u16) -> bool
     ensures { result ≡ (undone || not (done (tvm_of fence) version)) }
 {
-    if tvm_done(fence, TvmVersion(version)) {
+    if fence.done(TvmVersion(version)) {
         undone
     } else {
         true

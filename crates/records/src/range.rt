@@ -7,7 +7,7 @@ ghost use Rattle.fences.specs.Trackers.{global_of};
 ghost use Rattle.records.specs.Passes.{wanted, unfinished, range_look, stepped};
 
 use super::record::{read, write};
-use fences::{GlobalTracker, GlobalVersion, global_done};
+use fences::{GlobalTracker, GlobalVersion};
 use rules::Page;
 use rules::numbers::Kind;
 
@@ -33,7 +33,7 @@ fn is_unfinished(p: Page, fence: GlobalTracker) -> bool
 {
     let kind = p.kind;
     if kind == Kind::Converting as u8 {
-        !global_done(fence, GlobalVersion(p.version))
+        !fence.done(GlobalVersion(p.version))
     } else {
         false
     }

@@ -13,28 +13,25 @@ use door::early::is_made;
 use door::request::Request;
 use rules::Role;
 use rules::numbers::Operation;
-use words::parts::Place;
+use words::parts::Seat;
 use words::{Words, parts};
 
 fn is_outside(l: &Words, h: u64) -> bool
     ensures { result ≡ is_outside ((view l.now).hart h).place }
 {
-    match parts::place_of(l, h) {
-        Place::Outside => true,
-        Place::Inside { slot: _, vcpu: _ } => false,
-    }
+    parts::place_of(l, h).is_none()
 }
 
 // The place is in the slot: at any of its vCPUs, or at that one.
-fn is_there(p: Place, whole: bool, k: u64, v: u64) -> bool
+fn is_there(p: Option<Seat>, whole: bool, k: u64, v: u64) -> bool
     ensures { result ≡ is_there whole k v (place_is p) }
 {
     match p {
-        Place::Outside => false,
-        Place::Inside { slot, vcpu } => {
-            let same = slot as u64 == k;
-            let seat = vcpu as u64 == v;
-            same & (whole | seat)
+        None => false,
+        Some(seat) => {
+            let same = seat.slot as u64 == k;
+            let at = seat.vcpu as u64 == v;
+            same & (whole | at)
         }
     }
 }

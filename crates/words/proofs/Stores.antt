@@ -122,7 +122,7 @@ stored_sizes ws₀ ws₁ ws₂ harts pages z e f =
 pub flushes_never : (x v : ℕ) → x ≡ 0 → true ≡ flushes (mark_of x) v
 flushes_never x v e = rw e
 
-pub flushes_past : (x v : ℕ) → 65536 < x → v < 65536 → true ≡ flushes (mark_of x) v
+pub flushes_past : (x v : ℕ) → (x - 1 < 65536 → ⊥) → v < 65536 → true ≡ flushes (mark_of x) v
 flushes_past x v h l =
     let z : (x ≡ 0 → ⊥) = λ e. omega arith in
     let n : (x - 1 ≡ v → ⊥) = λ e. omega arith in

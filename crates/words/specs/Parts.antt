@@ -1,9 +1,8 @@
 -- A fence's word put together, and the code's regions and places as the paper's.
-use Rattle.std.specs.Prelude.{ℕ, ◌+◌, ◌*◌, ◌<◌, ◌≡◌}
+use Rattle.std.specs.Prelude.{ℕ, ◌+◌, ◌*◌, ◌<◌, ◌≡◌, Option, Some, None}
 use Rattle.rules.specs.Ledger.{Region, Place, inside, outside}
 use Rattle.words.specs.declared.parts.Region as Regions
-use Rattle.words.specs.declared.parts.Place as Places
-use Rattle.words.specs.declared.parts.Place.TheVariants as At
+use Rattle.words.specs.declared.parts.Seat.{Seat}
 
 abbrev pub packed : ℕ → ℕ → ℕ → ℕ
 packed version awaited above = version + 65536 * awaited + 16777216 * above
@@ -17,6 +16,6 @@ pub record Packed (version awaited above r : ℕ) : Type 0 where
 abbrev pub region_of : Regions.Region → Region
 region_of r = record { first = r.first; pages = r.pages }
 
-abbrev pub place_is : Places.Place → Place
-place_is At.Outside = outside
-place_is (At.Inside slot vcpu) = inside slot vcpu
+abbrev pub place_is : Option Seat → Place
+place_is None = outside
+place_is (Some s) = inside s.slot s.vcpu

@@ -1,28 +1,15 @@
 // Single words.
-ghost use Rattle.std.specs.Prelude.{◌≡◌, ◌+◌, ◌^◌, ◌<◌, length};
+ghost use Rattle.std.specs.Prelude.{◌≡◌, ◌+◌, ◌*◌, ◌^◌, ◌<◌};
 ghost use Rattle.sets.specs.Terms.{put as store};
-ghost use Rattle.rules.specs.Encoding.{Numbers, read, part, cell};
+ghost use Rattle.rules.specs.Encoding.{Numbers, read, part, cell, upper};
 
 use super::Words;
-
-fn size(s: &[u32]) -> usize
-    ensures { result ≡ length s.now }
-{
-    s.len()
-}
-
-// A lent slice of words: each is below 2^32.
-fn all_small(s: &[u32]) -> usize
-    ensures { (result ≡ length s.now) × Numbers (length s.now) (2 ^ 32) s.now }
-{
-    size(s)
-}
 
 // The lent words are 426 numbers below 2^32; there are as many.
 pub fn known(l: &Words) -> usize
     ensures { (result ≡ 426) × Numbers 426 (2 ^ 32) l.now }
 {
-    all_small(l)
+    l.as_slice().len()
 }
 
 pub fn word(l: &Words, i: usize) -> u32
@@ -36,7 +23,6 @@ pub fn put(l: &mut Words, i: usize, v: u32)
     requires { i < 426 }
     ensures { read l.new ≡ store i v (read l.old) }
 {
-    known(&*l);
     l[i] = v;
 }
 
@@ -48,27 +34,22 @@ pub fn in_part(l: &Words, base: usize, n: u64, i: u64) -> u32
     if i < n { word(l, base + i as usize) } else { 0 }
 }
 
-// Column i of row k of 16 rows of eight words, and of 8 rows of sixteen.
-pub fn of_slot(l: &Words, base: usize, k: u64, i: u64) -> u32
-    requires { base + 128 < 427 }
-    ensures { result ≡ cell (read l.now) base 16 8 k i }
+// Column i of row k, of rows that stand one after the other from `base` on, and 0 where there is none.
+pub fn cell<const ROWS: usize, const COLUMNS: usize>(l: &Words, base: usize, k: u64, i: u64) -> u32
+    requires { base + ROWS * COLUMNS < 427 }
+    ensures { result ≡ cell (read l.now) base ROWS COLUMNS k i }
 {
-    if i < 8 {
-        if k < 16 {
-            return in_part(l, base, 128, 8 * k + i);
-        }
+    let (rows, columns) = (ROWS as u64, COLUMNS as u64);
+    if k < rows && i < columns {
+        in_part(l, base, rows * columns, columns * k + i)
+    } else {
+        0
     }
-    0
 }
 
-pub fn of_hart(l: &Words, base: usize, h: u64, k: u64) -> u32
-    requires { base + 128 < 427 }
-    ensures { result ≡ cell (read l.now) base 8 16 h k }
+// What stands above a fence in its word.
+pub fn upper(x: u32) -> u8
+    ensures { result ≡ upper x }
 {
-    if k < 16 {
-        if h < 8 {
-            return in_part(l, base, 128, 16 * h + k);
-        }
-    }
-    0
+    (x / 16777216) as u8
 }

@@ -3,13 +3,13 @@ ghost use Rattle.std.specs.Prelude.{◌≡◌, ◌+◌, ◌*◌, ◌<◌};
 ghost use Rattle.std.proofs.Math.Option.{some};
 ghost use Rattle.sets.specs.Terms.{put as store};
 ghost use Rattle.rules.specs.Ledger.{with_global, with_slot, with_hart, with_fence, slot as slot_with, inside, outside, flushes};
-ghost use Rattle.rules.specs.Encoding.{view, read, part, bits};
-ghost use Rattle.fences.specs.Trackers.{global_of, tvm_of};
+ghost use Rattle.rules.specs.Encoding.{view, read, part, bits, tracker_of};
+ghost use Rattle.fences.specs.Trackers.{tracked, global_of, tvm_of};
 ghost use Rattle.words.specs.Parts.{Packed, region_of, place_is};
 
 use super::Words;
-use super::cells::{in_part, of_hart, of_slot, put, word};
-use fences::{GlobalTracker, GlobalVersion, Mark, TvmTracker, TvmVersion};
+use super::cells::{cell, in_part, put, upper, word};
+use fences::{GlobalTracker, Tracker, TvmTracker, TvmVersion, Version};
 
 const FENCES: usize = 2;
 
@@ -29,29 +29,32 @@ pub struct Region {
     pub pages: u32,
 }
 
-// A fence's word: version, awaited harts, and what else stands in it.
-fn pack(version: u16, awaited: u8, above: u8) -> u32
-    ensures { Packed version awaited above result }
+// A fence's word put together, with what else stands in it, and the fence of one.
+fn pack<V: Version>(t: Tracker<V>, above: u8) -> u32
+    ensures { Packed (V.number t.version) t.awaited above result }
 {
-    version as u32 + 65536 * (awaited as u32) + 16777216 * (above as u32)
+    t.version.number() as u32 + 65536 * (t.awaited as u32) + 16777216 * (above as u32)
+}
+
+fn unpack<V: Version>(x: u32) -> Tracker<V>
+    ensures { tracked V.number result ≡ tracker_of x }
+{
+    let version = V::new((x % 65536) as u16);
+    let awaited = (x / 65536 % 256) as u8;
+    Tracker { version, awaited }
 }
 
 pub fn global(l: &Words) -> GlobalTracker
     ensures { global_of result ≡ (view l.now).global }
 {
-    let x = word(l, 0);
-    let version = GlobalVersion((x % 65536) as u16);
-    GlobalTracker {
-        version,
-        awaited: (x / 65536 % 256) as u8,
-    }
+    unpack(word(l, 0))
 }
 
 pub fn set_global(l: &mut Words, g: GlobalTracker)
     ensures { view l.new ≡ with_global (global_of g) (view l.old) }
 {
-    let harts = (word(&*l, 0) / 16777216) as u8;
-    put(l, 0, pack(g.version.0, g.awaited, harts));
+    let harts = upper(word(&*l, 0));
+    put(l, 0, pack(g, harts));
 }
 
 fn fence_word(l: &Words, k: u64) -> u32
@@ -63,27 +66,22 @@ fn fence_word(l: &Words, k: u64) -> u32
 pub fn fence(l: &Words, k: u64) -> TvmTracker
     ensures { tvm_of result ≡ ((view l.now).slot k).fence }
 {
-    let x = fence_word(l, k);
-    let version = TvmVersion((x % 65536) as u16);
-    TvmTracker {
-        version,
-        awaited: (x / 65536 % 256) as u8,
-    }
+    unpack(fence_word(l, k))
 }
 
 // The vCPUs made, as a set in a byte.
 pub fn made(l: &Words, k: u64) -> u8
     ensures { bits result ≡ ((view l.now).slot k).made }
 {
-    (fence_word(l, k) / 16777216) as u8
+    upper(fence_word(l, k))
 }
 
 pub fn set_fence(l: &mut Words, k: u64, t: TvmTracker)
     requires { k < 16 }
     ensures { view l.new ≡ with_slot k (with_fence (tvm_of t) ((view l.old).slot k)) (view l.old) }
 {
-    let made = (fence_word(&*l, k) / 16777216) as u8;
-    put(l, FENCES + k as usize, pack(t.version.0, t.awaited, made));
+    let made = upper(fence_word(&*l, k));
+    put(l, FENCES + k as usize, pack(t, made));
 }
 
 // A fence with the vCPUs that are made from now on.
@@ -91,7 +89,7 @@ pub fn set_made(l: &mut Words, k: u64, t: TvmTracker, vcpus: u8)
     requires { k < 16 }
     ensures { view l.new ≡ with_slot k (slot_with ((view l.old).slot k).phase (tvm_of t) (bits vcpus) ((view l.old).slot k).region) (view l.old) }
 {
-    put(l, FENCES + k as usize, pack(t.version.0, t.awaited, vcpus));
+    put(l, FENCES + k as usize, pack(t, vcpus));
 }
 
 pub fn phase(l: &Words, k: u64) -> u32
@@ -110,8 +108,8 @@ pub fn set_phase(l: &mut Words, k: u64, phase: u32)
 pub fn region_at(l: &Words, k: u64, i: u64) -> Region
     ensures { region_of result ≡ ((view l.now).slot k).region i }
 {
-    let first = of_slot(l, FIRSTS, k, i);
-    let pages = of_slot(l, LENGTHS, k, i);
+    let first = cell::<16, 8>(l, FIRSTS, k, i);
+    let pages = cell::<16, 8>(l, LENGTHS, k, i);
     Region { first, pages }
 }
 
@@ -124,25 +122,23 @@ pub fn set_region(l: &mut Words, k: u64, i: u64, r: Region)
     put(l, LENGTHS + at, r.pages);
 }
 
-// Where a hart is.
+// What a hart is inside of: the vCPU of a slot.
 #[derive(Clone, Copy)]
-pub enum Place {
-    Outside,
-    Inside { slot: u32, vcpu: u32 },
+pub struct Seat {
+    pub slot: u32,
+    pub vcpu: u32,
 }
 
-pub fn place_of(l: &Words, h: u64) -> Place
+// Where a hart is; outside, it has no seat.
+pub fn place_of(l: &Words, h: u64) -> Option<Seat>
     ensures { place_is result ≡ ((view l.now).hart h).place }
 {
     let x = in_part(l, PLACES, 8, h);
-    if x == 0 {
-        Place::Outside
-    } else {
-        Place::Inside {
-            slot: (x - 1) / 8,
-            vcpu: (x - 1) % 8,
-        }
-    }
+    let at = x.checked_sub(1)?;
+    Some(Seat {
+        slot: at / 8,
+        vcpu: at % 8,
+    })
 }
 
 pub fn set_outside(l: &mut Words, h: u64)
@@ -165,12 +161,12 @@ pub fn set_inside(l: &mut Words, h: u64, k: u64, v: u64, version: TvmVersion)
 pub fn enters_flushed(l: &Words, h: u64, k: u64, version: TvmVersion) -> bool
     ensures { result ≡ flushes (((view l.now).hart h).mark k) version.0 }
 {
-    let x = of_hart(l, MARKS, h, k);
+    let x = cell::<8, 16>(l, MARKS, h, k);
     if x == 0 {
-        return fences::flushes(Mark::Never, version);
+        return fences::flushes(None, version);
     }
-    if 65536 < x {
-        return true;
+    match u16::try_from(x - 1) {
+        Ok(mark) => fences::flushes(Some(TvmVersion(mark)), version),
+        Err(_) => true,
     }
-    fences::flushes(Mark::At(TvmVersion((x - 1) as u16)), version)
 }

@@ -3,14 +3,13 @@ ghost use Rattle.std.specs.Prelude.{◌≡◌, ◌≤◌, ◌<◌, replicate};
 ghost use Rattle.rules.specs.Ledger.{opened};
 ghost use Rattle.rules.specs.Encoding.{view};
 
-use super::cells::{put, word};
+use super::cells::{put, upper, word};
 use super::{SIZE, Words};
 
 pub fn harts(l: &Words) -> u8
     ensures { result ≡ (view l.now).harts }
 {
-    let x = word(l, 0);
-    (x / 16777216) as u8
+    upper(word(l, 0))
 }
 
 pub fn pages(l: &Words) -> u32

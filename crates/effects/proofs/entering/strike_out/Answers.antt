@@ -2,9 +2,9 @@ use mathlib.Core.Path.{◌≡◌, ◌∙◌, ap}
 use Rattle.rules.specs.Fence.{strike}
 use Rattle.rules.specs.Ledger.{with_slot, with_fence}
 use Rattle.rules.specs.Encoding.{view}
-use Rattle.rules.proofs.HartSets.{bits-without}
 use Rattle.fences.specs.Trackers.{tvm_of}
-use Rattle.effects.proofs.Puts.{tracker_with, past_slots}
+use Rattle.fences.proofs.Trackers.{tvm_strike}
+use Rattle.effects.proofs.Puts.{past_slots}
 use Rattle.effects.proofs.entering.strike_out.Goals as goal
 
 pub returns-then-k-lt16 : goal.returns-then-k-lt16
@@ -12,9 +12,7 @@ returns-then-k-lt16 c =
     let l = view c.args.l.now in
     let k = c.args.k in
     let h = c.args.h in
-    let t = c.fence-t.result in
-    let struck : tvm_of c.strike_one.result ≡ strike h (l.slot k).fence =
-    ap tvm_of c.strike_one.ensures ∙ (λ i. tracker_with t.version.0 (bits-without t.awaited h i)) ∙ ap (strike h) c.fence-t.ensures in
+    let struck : tvm_of c.strike.new.self ≡ strike h (l.slot k).fence = ap tvm_of c.strike.ensures ∙ tvm_strike c.fence-t.result h ∙ ap (strike h) c.fence-t.ensures in
     c.set_fence.ensures ∙ (λ i. with_slot k (with_fence (struck i) (l.slot k)) l)
 
 pub returns-else-k-lt16 : goal.returns-else-k-lt16

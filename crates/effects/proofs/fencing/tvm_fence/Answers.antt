@@ -12,5 +12,5 @@ returns c =
     let inside : bits c.there-inside.result ≡ insiders_of l k = c.there-inside.ensures in
     let f = c.fence-t.ensures in (
       c.how_many.ensures ∙ ap number inside,
-      c.set_fence.ensures ∙ (λ i. with_slot k (with_fence (tvm_of (c.begin_one.ensures i)) (l.slot k)) l) ∙ (λ i. with_slot k (with_fence (begin (inside i) (f i)) (l.slot k)) l),
+      c.set_fence.ensures ∙ (λ i. with_slot k (with_fence (tvm_of (c.begin.ensures i)) (l.slot k)) l) ∙ (λ i. with_slot k (with_fence (begin (inside i) (f i)) (l.slot k)) l),
     )

@@ -1,6 +1,7 @@
-use Rattle.rules.specs.Encoding.{view_of}
+use mathlib.Core.Path.{◌∙◌, ap}
+use Rattle.rules.specs.Encoding.{view_of, tracker_of}
 use Rattle.words.proofs.parts.fence.Goals as goal
 
 pub returns : goal.returns
 unfolding view_of
-returns c = rw c.fence_word-x.ensures
+returns c = c.unpack.ensures ∙ ap tracker_of c.fence_word.ensures

@@ -3,4 +3,4 @@ use Rattle.words.proofs.parts.made.Goals as goal
 
 pub returns : goal.returns
 unfolding view_of
-returns c = rw c.fence_word.ensures
+returns c = rw (c.upper.ensures, c.fence_word.ensures)

@@ -1,11 +1,13 @@
+use native.Mathlib.Omega.{arith}
 use borrow.Author.Tests.{eq-eqb, ne_eqb}
 use Rattle.rules.specs.Encoding.{view_of}
 use Rattle.words.proofs.parts.place_of.Goals as goal
 
-pub returns-then-x-eq0 : goal.returns-then-x-eq0
+pub returns-in_err-at : goal.returns-in_err-at
 unfolding view_of
-returns-then-x-eq0 c = rw (← c.in_part-x.ensures, eq-eqb _ _ c.if-x-eq0.true)
+returns-in_err-at c = rw (c.from_residual.ensures, ← c.in_part-x.ensures, eq-eqb c.in_part-x.result 0 (omega (arith, c.in_err-at.ensures)))
 
-pub returns-else-x-eq0 : goal.returns-else-x-eq0
+pub returns : goal.returns
 unfolding view_of
-returns-else-x-eq0 c = rw (← c.in_part-x.ensures, ne_eqb _ _ c.if-x-eq0.false)
+returns c =
+    rw (← c.in_part-x.ensures, ne_eqb c.in_part-x.result 0 (λ e. omega (arith, c.in_ok-at.ensures.0)), c.in_ok-at.ensures.1)

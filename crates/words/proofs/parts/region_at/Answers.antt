@@ -3,4 +3,4 @@ use Rattle.words.proofs.parts.region_at.Goals as goal
 
 pub returns : goal.returns
 unfolding view_of
-returns c = rw (c.of_slot-first.ensures, c.of_slot-pages.ensures)
+returns c = rw (c.cell-first.ensures, c.cell-pages.ensures)

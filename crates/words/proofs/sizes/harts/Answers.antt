@@ -3,4 +3,4 @@ use Rattle.words.proofs.sizes.harts.Goals as goal
 
 pub returns : goal.returns
 unfolding view_of
-returns c = rw c.word-x.ensures
+returns c = rw (c.upper.ensures, c.word.ensures)
