@@ -125,7 +125,8 @@ fn look_at_all(l: &Words, t: &[u8], r: &Request, pages: u64) -> Sight
     let guests = guests_at(l, t, r, pages);
     let refuses6 = host.is_none() | (directory.is_none() | free.is_none()) | guests.is_none();
     let refuses7 = (directory.is_some_and(|w| w.unfinished) | free.is_some_and(|w| w.unfinished))
-        | ((r.is(Operation::Validate) | r.is(Operation::Remove)) & guests.is_some_and(|m| m.undone));
+        | ((r.is(Operation::Validate) | r.is(Operation::Remove))
+            & guests.is_some_and(|m| m.undone));
     let refuses14 = guests.is_some_and(|m| m.cut);
     Sight {
         refuses6,
