@@ -48,7 +48,7 @@ is_new slot first count p seen = claims_in slot first count p && not (member_in 
 unfoldable pub noted : ℕ → ℕ → ℕ → Page → List ℕ → List ℕ
 noted slot first count p seen = cond (is_new slot first count p seen) (with_in 64 seen (guest_page p - first)) seen
 
--- none where some guest page is not mapped, or its record is not of the kind; else whether some is not done, and whether some large mapping is cut
+-- none where a guest page is not mapped or its record not of the kind; else whether some is not done, and whether some large mapping is cut
 unfoldable pub guest_look : Table → ℕ → ℕ → ℕ → ℕ → ℕ → Tracker → Option AllMapped
 guest_look t n slot first count kind fence =
     cond (any (λ d. not (ltb (meant t n slot (first + d)) n && eqb (t.page (meant t n slot (first + d))).kind kind)) count) None
