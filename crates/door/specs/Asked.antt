@@ -5,31 +5,7 @@ use Rattle.sets.specs.Set.{member, with}
 use Rattle.rules.specs.declared.Call.{Call}
 use Rattle.rules.specs.declared.Role.{Role}
 use Rattle.rules.specs.declared.Role.TheVariants.{Vcpu, UnitCount, UnitType, ByteLength, HartCount, PageCount}
-use Rattle.rules.specs.declared.numbers.Operation.{Operation}
-use Rattle.rules.specs.declared.numbers.Operation.TheVariants as Op
 use Rattle.rules.specs.Calls.{code, names, arg, unnamed}
-
--- the number of a call of the table
-abbrev pub number_of : Operation → ℕ
-number_of Op.Convert = 1
-number_of Op.Reclaim = 2
-number_of Op.GlobalFence = 3
-number_of Op.LocalFence = 4
-number_of Op.Create = 5
-number_of Op.Finalize = 6
-number_of Op.Destroy = 8
-number_of Op.Region = 9
-number_of Op.PoolPages = 10
-number_of Op.Measured = 11
-number_of Op.Zero = 12
-number_of Op.Vcpu = 14
-number_of Op.Enter = 15
-number_of Op.TvmFence = 16
-number_of Op.Invalidate = 17
-number_of Op.Validate = 18
-number_of Op.Remove = 19
-number_of Op.Leave = 32
-number_of Op.Open = 33
 
 -- some argument whose role is 0 is not 0
 abbrev pub unnamed_by : Call → ℕ → ℕ → ℕ → ℕ → ℕ → ℕ → Bool

@@ -1,3 +1,4 @@
 pub mod Asked
+pub mod Operations
 pub mod Places
 pub mod Ready

@@ -2,7 +2,7 @@
 // asks of a call, and its value in a contract is the call.
 ghost use Rattle.std.specs.Prelude.{◌≡◌, eqb};
 ghost use Rattle.rules.specs.Calls.{allows, arg, entry_of, names, unnamed};
-ghost use Rattle.door.specs.Asked.{number_of};
+ghost use Rattle.door.specs.Operations.{number_of};
 
 use super::asked::asked;
 use rules::numbers::Operation;
