@@ -8,7 +8,7 @@ use native.Mathlib.Omega.{arith}
 use lib.Dec.{ltb, eqb}
 use lib.ListN.{length, get_or, drop, set, length-set}
 use lib.Seq.{get_or-set_same, get_or-set_other}
-use borrow.Author.Tests.{eqb-true, eqb-false, ne_eqb, lt-ltb, ltb-true}
+use borrow.Author.Tests.{eqb-true, eqb-false, ne_eqb}
 use Rattle.sets.specs.Terms.{one_of, one_from, any_in}
 use Rattle.sets.specs.Look.{any}
 use Rattle.sets.specs.Set.{member, with, without}
@@ -224,9 +224,6 @@ long_is c = go (names ByteLength c) (names UnitCount c)
     go true n = refl
     go false true = refl
     go false false = refl
-
-pub long_large : (count : ℕ) → ltb 8 count ≡ ltb 4096 (count * 512)
-long_large count = iff _ _ (λ e. lt-ltb 4096 (count * 512) (omega (arith, ltb-true 8 count e))) (λ e. lt-ltb 8 count (omega (arith, ltb-true 4096 (count * 512) e)))
 
 -- no digit past the last
 pub made_past : (s v : ℕ) → s < 256 → 8 ≤ v → member v s ≡ false

@@ -13,14 +13,14 @@ use Rattle.sets.specs.Terms.{one_of, one_from, within}
 use Rattle.sets.proofs.Bools.{or_cases, and_left, and_right, and_off}
 use Rattle.sets.proofs.OneOf.{one_off}
 use Rattle.rules.specs.declared.Call.{Call}
-use Rattle.rules.specs.declared.Role.TheVariants.{Tvm, Vcpu, HostBase, FreeBase, DirectoryBase, UnitCount, UnitType, GuestBase, PageCount}
+use Rattle.rules.specs.declared.Role.TheVariants.{Tvm, HostBase, FreeBase, DirectoryBase, UnitCount, UnitType, GuestBase, PageCount}
 use Rattle.rules.specs.Calls.{entry_of, opens, moves, names, arg, size, memory, index}
 use Rattle.rules.specs.Page.{fits}
 use Rattle.rules.specs.Refusals.{refuses4}
 use Rattle.rules.specs.Encoding.{view, pages_of}
 use Rattle.rules.proofs.CallTable.{each, is_named, with_it, named_at, not_that}
 use Rattle.rules.proofs.Accepted.{Early, not-early}
-use Rattle.rules.proofs.Bounds.{Placed, in_within, fits-is, slot_in, table_is, few_pages, hart_low, size_in, vcpu_in, host_in, free_in, directory_in, guest_in}
+use Rattle.rules.proofs.Bounds.{Placed, in_within, fits-is, slot_in, table_is, size_in, host_in, free_in, directory_in, guest_in}
 use Rattle.door.specs.Ready.{Ready}
 
 -- ---- 17 to 19
@@ -95,17 +95,8 @@ module _ {ws b : List ℕ} {c : Call} {pages : ℕ} (r : Ready ws b c pages) whe
   unfolding pages_of
   all_records n = table_is (view ws) (pages_of b) c early_of n
 
-  pub records_few : opens c ≡ false → (view ws).pages ≤ 4096
-  records_few n = few_pages (view ws) (pages_of b) c early_of n
-
   pub tvm_fits : names Tvm c ≡ true → arg Tvm c < 16
   tvm_fits n = slot_in (view ws) (pages_of b) c early_of n
-
-  pub vcpu_fits : names Vcpu c ≡ true → arg Vcpu c < 8
-  vcpu_fits n = vcpu_in (view ws) (pages_of b) c early_of n
-
-  pub hart-fits : opens c ≡ false → c.hart < 8
-  hart-fits n = hart_low (view ws) (pages_of b) c early_of n
 
   pub pages_fit : eqb c.number 9 ≡ false → pages ≤ 4096
   pages_fit n = rw r.sized (size_in (view ws) (pages_of b) c early_of n)
