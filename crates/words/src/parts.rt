@@ -33,14 +33,15 @@ pub struct Region {
 fn pack<V: Version>(t: Tracker<V>, above: u8) -> u32
     ensures { Packed (V.number t.version) t.awaited above result }
 {
-    t.version.number() as u32 + 65536 * (t.awaited as u32) + 16777216 * (above as u32)
+    let [low, high] = t.version.number().to_le_bytes();
+    u32::from_le_bytes([low, high, t.awaited, above])
 }
 
 fn unpack<V: Version>(x: u32) -> Tracker<V>
     ensures { tracked V.number result ≡ tracker_of x }
 {
-    let version = V::new((x % 65536) as u16);
-    let awaited = (x / 65536 % 256) as u8;
+    let [low, high, awaited, _] = x.to_le_bytes();
+    let version = V::new(u16::from_le_bytes([low, high]));
     Tracker { version, awaited }
 }
 
