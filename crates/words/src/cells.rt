@@ -47,9 +47,9 @@ pub fn cell<const ROWS: usize, const COLUMNS: usize>(l: &Words, base: usize, k: 
     }
 }
 
-// What stands above a fence in its word.
+// What stands above a fence in its word: the last byte, little endian.
 pub fn upper(x: u32) -> u8
     ensures { result ≡ upper x }
 {
-    (x / 16777216) as u8
+    x.to_le_bytes()[3]
 }

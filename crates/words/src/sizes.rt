@@ -28,6 +28,6 @@ pub fn open(l: &mut Words, harts: u8, pages: u32)
     ensures { view l.new ≡ opened harts pages }
 {
     clear(&mut *l);
-    put(&mut *l, 0, 16777216 * (harts as u32));
+    put(&mut *l, 0, u32::from_le_bytes([0, 0, 0, harts]));
     put(l, 1, pages);
 }
