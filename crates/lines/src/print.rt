@@ -29,6 +29,7 @@ fn lines(tape: &[u8], ledger: &mut Words, table: &mut [u8]) -> Text
     let mut text = Text::new();
     let mut reader = Reader { tape, at: 0 };
     let mut number = 1;
+    // Not a `for`, as in `tape::reading::run_of`: what ends the records is asked of the reader.
     while let Some(taken) = reader.next() {
         let answer = answered(taken, ledger, table);
         text.line(number, u64::from(taken.call), answer);
