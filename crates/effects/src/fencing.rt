@@ -34,7 +34,7 @@ pub fn tvm_fence(l: &mut Words, k: u64) -> u64
     requires { (k < 16) × (((view l.old).slot k).fence.version < 65534) }
     ensures { (result ≡ number (insiders_of (view l.old) k)) × (view l.new ≡ begun_in k (view l.old)) }
 {
-    let inside = there(&*l, true, k, 0);
+    let inside = there(&*l, k, None);
     let mut t = parts::fence(&*l, k);
     t.begin(inside);
     parts::set_fence(l, k, t);
