@@ -1,8 +1,8 @@
 -- What keeps the sums and products of refusal 5 in a word.
 -- Assumes nothing.
-use Prim.Native.Nat.{ℕ, ◌+◌, ◌-◌, ◌*◌, ◌%◌, ◌^◌, ◌≤◌, ◌<◌}
-use mathlib.Core.Path.{◌≡◌, refl, sym}
-use mathlib.Core.Bool.{Bool, true, false, cond, not, ◌||◌, true≢false}
+use Prim.Native.Nat.{ℕ, ◌+◌, ◌-◌, ◌*◌, ◌%◌, ◌≤◌, ◌<◌}
+use mathlib.Core.Path.{◌≡◌, refl}
+use mathlib.Core.Bool.{Bool, true, false, not, ◌||◌}
 use native.Mathlib.Omega.{arith}
 use lib.Dec.{ltb, leb, eqb}
 use borrow.Author.Tests.{lt-ltb, ltb-true, ltb-false, le-leb, lt-leb}
@@ -10,7 +10,7 @@ use Rattle.sets.specs.Terms.{within}
 use Rattle.sets.proofs.Bools.{by_test, iff, and_right}
 use Rattle.rules.specs.Calls.{memory, span}
 use Rattle.rules.specs.Refusals.{misplaced}
-use Rattle.door.specs.Places.{size_by, past_guest}
+use Rattle.door.specs.Places.{past_guest}
 
 or_last : (a b : Bool) → (a || b || true) ≡ true
 or_last true b = refl
@@ -42,11 +42,6 @@ past_base base pages h = lt-ltb 4294967296 (base + 4096 * pages) (omega arith)
 
 pub past_pages : (base pages : ℕ) → 1048576 < pages → past_guest base pages ≡ true
 past_pages base pages h = lt-ltb 4294967296 (base + 4096 * pages) (omega arith)
-
-pub counted : (m n : Bool) (long count kind : ℕ) → m ≡ false → n ≡ true → size_by m n long count kind < 2 ^ 64 → count * cond (eqb kind 1) 512 1 < 2 ^ 64
-counted true n long count kind e f h = absurd (true≢false e)
-counted false true long count kind e f h = h
-counted false false long count kind e f h = absurd (true≢false (sym f))
 
 pub before-first : (first number i : ℕ) → i < first → within first number i ≡ false
 before-first first number i h = rw (lt-leb first i h)

@@ -1,3 +1,4 @@
 pub mod Asked
+pub mod Extents
 pub mod Places
 pub mod Ready
