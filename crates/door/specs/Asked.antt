@@ -1,5 +1,5 @@
 -- What the twelve words of the door say.
-use Rattle.std.specs.Prelude.{ℕ, Bool, ◌&&◌, List, [], ◌∷◌, ◌≡◌, length, get_or, ltb, eqb}
+use Rattle.std.specs.Prelude.{ℕ, Bool, cond, Option, Some, None, ◌&&◌, List, [], ◌∷◌, ◌≡◌, length, get_or, ltb, eqb}
 use Rattle.sets.specs.Terms.{one_of}
 use Rattle.sets.specs.Set.{member, with}
 use Rattle.rules.specs.declared.Call.{Call}
@@ -46,6 +46,10 @@ unnamed_by c r0 r1 r2 r3 r4 r5 =
 -- the set of six roles
 abbrev pub roles_of : ℕ → ℕ → ℕ → ℕ → ℕ → ℕ → ℕ
 roles_of r0 r1 r2 r3 r4 r5 = with (with (with (with (with (with 0 r0) r1) r2) r3) r4) r5
+
+-- the value of the argument, where the call names one
+abbrev pub named : Role → Call → Option ℕ
+named r c = cond (names r c) (Some (arg r c)) None
 
 -- what 4 looks at besides the hart: whether an argument that is not named is not 0, and whether arguments of these roles are named
 abbrev pub for4 : Call → List Bool
