@@ -91,6 +91,7 @@ pub fn sized(r: &Request) -> u64
     pages_of(r.extent())
 }
 
+// Each line is a condition as `rules` has it, a name and a test, and needs no proof; with an Option for each address it is as long and needs one.
 #[tactic(auto, using(rules::proofs::Spans::host_spans_lem, rules::proofs::Spans::free_spans_lem), unfolding(rules::specs::Refusals::refuses5, sets::specs::Terms::one_of, sets::specs::Terms::one_from))]
 fn any_misplaced(l: &Words, t: &[u8], r: &Request, pages: u64) -> bool
     requires { pages ≡ size r.now }
