@@ -22,7 +22,9 @@ use Rattle.rules.specs.declared.Call.{Call}
 use Rattle.rules.specs.Calls.{code, pick, entry_of, names, arg, unnamed, unit, size}
 use Rattle.rules.specs.Tables.{role_at}
 use Rattle.rules.proofs.CallTable.{few_named}
-use Rattle.door.specs.Asked.{Asked, unnamed_by, roles_of, long_by}
+use Rattle.door.specs.Asked.{Asked, unnamed_by, roles_of}
+use Rattle.door.specs.declared.extent.Extent.TheVariants.{Bytes, Units, OnePage}
+use Rattle.door.specs.Extents.{extent_of, long_by}
 
 -- the numbers of the roles are 1 to 11
 pub code_in : (r : Role) → (0 < code r) × (code r < 12)
@@ -216,11 +218,12 @@ module _ (c : Call) (r0 r1 r2 r3 r4 r5 : ℕ) (e0 : r0 ≡ role_at c.number 0) (
       zero_is false = member-without 0 R 0
 
 -- ---- sizes
-pub long_is : (c : Call) → ltb 4096 (size c) ≡ long_by (names ByteLength c) (names UnitCount c) (arg ByteLength c) (arg UnitCount c) (arg UnitType c)
+pub long_is : (c : Call) → ltb 4096 (size c) ≡ long_by (extent_of c)
 unfolding size
 long_is c = go (names ByteLength c) (names UnitCount c)
   where
-    go : (m n : Bool) → ltb 4096 (cond m (arg ByteLength c / 4096) (cond n (arg UnitCount c * unit c) 1)) ≡ long_by m n (arg ByteLength c) (arg UnitCount c) (arg UnitType c)
+    go : (m n : Bool) → ltb 4096 (cond m (arg ByteLength c / 4096) (cond n (arg UnitCount c * unit c) 1))
+        ≡ long_by (cond m (Bytes (arg ByteLength c)) (cond n (Units (arg UnitCount c) (arg UnitType c)) OnePage))
     go true n = refl
     go false true = refl
     go false false = refl

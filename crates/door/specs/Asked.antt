@@ -1,5 +1,5 @@
 -- What the twelve words of the door say.
-use Rattle.std.specs.Prelude.{ℕ, ◌*◌, ◌/◌, Bool, false, cond, ◌&&◌, List, [], ◌∷◌, ◌≡◌, length, get_or, ltb, eqb}
+use Rattle.std.specs.Prelude.{ℕ, Bool, cond, Option, Some, None, ◌&&◌, List, [], ◌∷◌, ◌≡◌, length, get_or, ltb, eqb}
 use Rattle.sets.specs.Terms.{one_of}
 use Rattle.sets.specs.Set.{member, with}
 use Rattle.rules.specs.declared.Call.{Call}
@@ -23,9 +23,9 @@ unnamed_by c r0 r1 r2 r3 r4 r5 =
 abbrev pub roles_of : ℕ → ℕ → ℕ → ℕ → ℕ → ℕ → ℕ
 roles_of r0 r1 r2 r3 r4 r5 = with (with (with (with (with (with 0 r0) r1) r2) r3) r4) r5
 
--- a range of that length or count has more than 4,096 pages
-abbrev pub long_by : Bool → Bool → ℕ → ℕ → ℕ → Bool
-long_by measured counted long count kind = cond measured (ltb 4096 (long / 4096)) (cond counted (ltb 4096 (count * cond (eqb kind 1) 512 1)) false)
+-- the value of the argument, where the call names one
+abbrev pub named : Role → Call → Option ℕ
+named r c = cond (names r c) (Some (arg r c)) None
 
 -- what 4 looks at besides the hart: whether an argument that is not named is not 0, and whether arguments of these roles are named
 abbrev pub for4 : Call → List Bool

@@ -1,4 +1,5 @@
 pub mod Asked
 pub mod Operations
+pub mod Extents
 pub mod Places
 pub mod Ready

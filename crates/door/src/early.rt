@@ -4,8 +4,10 @@ ghost use Rattle.rules.specs.Page.{fits as fits_table};
 ghost use Rattle.rules.specs.Ledger.{is_open};
 ghost use Rattle.rules.specs.Refusals as n;
 ghost use Rattle.rules.specs.Encoding.{view, pages_of};
-ghost use Rattle.door.specs.Asked.{long_by, names_for_4};
+ghost use Rattle.door.specs.Asked.{names_for_4};
+ghost use Rattle.door.specs.Extents.{long_by};
 
+use super::extent::{Extent, Unit};
 use super::request::Request;
 use rules::Role;
 use rules::numbers::{Operation, Phase};
@@ -65,19 +67,15 @@ pub fn refuses3(l: &Words, t: &[u8], r: &Request) -> bool
 }
 
 // A range has more than 4,096 pages. (A count of large pages may be too long for its pages to be counted.)
-fn is_long(measured: bool, counted: bool, length: u64, count: u64, kind: u64) -> bool
-    ensures { result ≡ long_by measured counted length count kind }
+fn is_long(extent: Extent) -> bool
+    ensures { result ≡ long_by extent }
 {
-    if measured {
-        return 4096 < length / 4096;
+    match extent {
+        Extent::Bytes(length) => 4096 < length / 4096,
+        Extent::Units { count, kind } if kind == Unit::Large as u64 => 8 < count,
+        Extent::Units { count, .. } => 4096 < count,
+        Extent::OnePage => false,
     }
-    if counted {
-        if kind == 1 {
-            return 8 < count;
-        }
-        return 4096 < count;
-    }
-    false
 }
 
 // The vCPU of the slot is made.
@@ -109,7 +107,7 @@ fn any_out_of_range(l: &Words, t: &[u8], r: &Request) -> bool
     let counted = r.names(Role::UnitCount);
     let typed = r.names(Role::UnitType);
     let measured = r.names(Role::ByteLength);
-    let long = is_long(measured, counted, length, count, kind);
+    let long = is_long(r.extent());
     let seated = r.names(Role::Vcpu);
     let made = is_made(l, r.arg(Role::Tvm), vcpu);
     let sized = fits(t, pages);
@@ -117,7 +115,7 @@ fn any_out_of_range(l: &Words, t: &[u8], r: &Request) -> bool
         | (!opens & (all as u64 <= hart))
         | r.has_spare()
         | (counted & (count == 0))
-        | (typed & (1 < kind))
+        | (typed & ((Unit::Large as u64) < kind))
         | (!r.is(Operation::Region) & long)
         | (measured & (length == 0))
         | (measured & !(length % 4096 == 0))

@@ -5,5 +5,6 @@
 
 mod asked;
 pub mod early;
+pub mod extent;
 pub mod places;
 pub mod request;

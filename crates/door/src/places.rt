@@ -4,8 +4,10 @@ ghost use Rattle.sets.specs.Terms.{within};
 ghost use Rattle.rules.specs.Calls.{size, span};
 ghost use Rattle.rules.specs.Refusals as n;
 ghost use Rattle.rules.specs.Encoding.{view, pages_of};
-ghost use Rattle.door.specs.Places.{Countable, names_place, past_guest, size_by};
+ghost use Rattle.door.specs.Extents.{Countable, size_by};
+ghost use Rattle.door.specs.Places.{names_place, past_guest};
 
+use super::extent::{Extent, Unit};
 use super::request::Request;
 use rules::Role;
 use words::{Words, sizes};
@@ -17,21 +19,18 @@ pub const MEMORY: u64 = 0x80000000;
 fn unit_of(kind: u64) -> u64
     ensures { (result ≡ cond (eqb kind 1) 512 1) × (0 < result) × (result < 513) }
 {
-    if kind == 1 { 512 } else { 1 }
+    if kind == Unit::Large as u64 { 512 } else { 1 }
 }
 
-// The pages of a range that is measured in bytes, or counted in units, or one page.
-fn pages_of(measured: bool, counted: bool, length: u64, count: u64, kind: u64) -> u64
-    requires { Countable measured counted count kind }
-    ensures { result ≡ size_by measured counted length count kind }
+fn pages_of(extent: Extent) -> u64
+    requires { Countable extent }
+    ensures { result ≡ size_by extent }
 {
-    if measured {
-        return length / 4096;
+    match extent {
+        Extent::Bytes(length) => length / 4096,
+        Extent::Units { count, kind } => count * unit_of(kind),
+        Extent::OnePage => 1,
     }
-    if counted {
-        return count * unit_of(kind);
-    }
-    1
 }
 
 // Pages from an address on are not on their boundary, or not in a memory of `total` pages. The end is reckoned only where neither the address nor
@@ -89,17 +88,10 @@ pub fn sized(r: &Request) -> u64
     requires { (not (eqb r.now.number 9) && ltb 4096 (size r.now)) ≡ false }
     ensures { result ≡ size r.now }
 {
-    let measured = r.names(Role::ByteLength);
-    let counted = r.names(Role::UnitCount);
-    pages_of(
-        measured,
-        counted,
-        r.arg(Role::ByteLength),
-        r.arg(Role::UnitCount),
-        r.arg(Role::UnitType),
-    )
+    pages_of(r.extent())
 }
 
+// Each line is a condition as `rules` has it, a name and a test, and needs no proof; with an Option for each address it is as long and needs one.
 #[tactic(auto, using(rules::proofs::Spans::host_spans_lem, rules::proofs::Spans::free_spans_lem), unfolding(rules::specs::Refusals::refuses5, sets::specs::Terms::one_of, sets::specs::Terms::one_from))]
 fn any_misplaced(l: &Words, t: &[u8], r: &Request, pages: u64) -> bool
     requires { pages ≡ size r.now }

@@ -2,6 +2,7 @@
 // asks of a call, and its value in a contract is the call.
 ghost use Rattle.std.specs.Prelude.{◌≡◌, eqb};
 ghost use Rattle.rules.specs.Calls.{allows, arg, entry_of, names, unnamed};
+ghost use Rattle.door.specs.Asked.{named};
 ghost use Rattle.door.specs.Operations.{number_of};
 
 use super::asked::asked;
@@ -64,6 +65,13 @@ impl Request {
         ensures { result ≡ arg role self.now }
     {
         self.words[role as usize]
+    }
+
+    // Its value, where the call names one.
+    pub fn named(&self, role: Role) -> Option<u64>
+        ensures { result ≡ named role self.now }
+    {
+        self.names(role).then(|| self.arg(role))
     }
 
     // Some argument that is not named is not 0.

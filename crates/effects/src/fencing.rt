@@ -34,7 +34,7 @@ pub fn tvm_fence(l: &mut Words, k: Slot) -> u64
     requires { ((view l.old).slot k).fence.version < 65534 }
     ensures { (result ≡ number (insiders_of (view l.old) k)) × (view l.new ≡ begun_in k (view l.old)) }
 {
-    let inside = there(&*l, true, k.number(), 0);
+    let inside = there(&*l, k.number(), None);
     let mut t = parts::fence(&*l, k.number());
     t.begin(inside);
     parts::set_fence(l, k, t);

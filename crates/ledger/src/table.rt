@@ -7,6 +7,7 @@ ghost use Rattle.rules.specs.Effects.{table};
 ghost use Rattle.rules.specs.Encoding.{view, pages_of};
 ghost use Rattle.door.specs.Ready.{Ready};
 
+use door::extent::Unit;
 use door::request::Request;
 use effects::pages;
 use looks::sight::is_move;
@@ -45,7 +46,7 @@ fn on_free(l: &Words, t: &mut [u8], r: &Request, pages: u64)
             pages,
             tvm as u8,
             first as u32,
-            r.arg(Role::UnitType) == 1,
+            r.arg(Role::UnitType) == Unit::Large as u64,
         )
     }
 }

@@ -1,9 +1,11 @@
 -- One look finds refusals 6, 7 and 14.
 -- Assumes nothing.
-use Prim.Native.Nat.{ℕ, ◌+◌}
+use Prim.Native.Nat.{ℕ, ◌+◌, ◌*◌, ◌≤◌}
 use mathlib.Core.Path.{◌≡◌, refl, sym, ◌∙◌, ap}
 use mathlib.Core.Bool.{Bool, true, false, cond, not, ◌&&◌, ◌||◌, true≢false}
+use mathlib.Core.List.{List}
 use lib.Dec.{eqb}
+use lib.ListN.{length}
 use Rattle.std.specs.Prelude.{Option, None, Some, MatchOption, is_none}
 use Rattle.sets.specs.Terms.{one_of, one_from, row}
 use Rattle.sets.specs.Look.{any}
@@ -13,14 +15,15 @@ use Rattle.rules.specs.Fence.{Tracker, done}
 use Rattle.rules.specs.Ledger.{Ledger}
 use Rattle.rules.specs.declared.Call.{Call}
 use Rattle.rules.specs.declared.Role.TheVariants.{HostBase, FreeBase, DirectoryBase}
-use Rattle.rules.specs.Calls.{moves, names, arg, size, first_guest, index}
+use Rattle.rules.specs.Calls.{moves, names, arg, size, first_guest, index, memory}
 use Rattle.rules.specs.Refusals.{the_slot, the_one, mapped, any_page, any_guest, refuses6, refuses7, refuses14}
 use Rattle.rules.proofs.Spans.{host_spans_lem, free_spans_lem}
 use Rattle.records.specs.Passes.{wanted, unfinished, range_look, guest_look}
 use Rattle.records.specs.declared.range.AllWanted.{AllWanted}
 use Rattle.records.specs.declared.guest.AllMapped.{AllMapped}
+use Rattle.door.specs.Asked.{named}
 use Rattle.looks.specs.declared.sight.Sight.{Sight}
-use Rattle.looks.specs.Sights.{Seen, is_unwanted, is_unfinished, is_unready, is_undone, has_cut, look_at, guests_at}
+use Rattle.looks.specs.Sights.{Seen, InTable, is_unwanted, is_unfinished, is_unready, is_undone, has_cut, look_at, guests_at}
 
 -- ---- a look that is made where something is named, and answers none where something is amiss
 none-is : {A : Type 0} (named amiss : Bool) (found unasked : A) → is_none (cond named (cond amiss None (Some found)) (Some unasked)) ≡ (named && amiss)
@@ -48,20 +51,28 @@ of_some says None r P n h test = h ∙ sym n
 of_some says (Some x) r P n h test = test x h
 
 -- ---- pages
-module _ (t : Table) (named : Bool) (base pages : ℕ) (host : Bool) (f : Tracker) where
+module _ (t : Table) (base pages : ℕ) (host : Bool) (f : Tracker) where
   abbrev amiss : Bool
   amiss = any (λ i. not (wanted host (t.page (index base + i)).kind)) pages
 
   abbrev waiting : Bool
   waiting = any (λ i. unfinished f (t.page (index base + i))) pages
 
-  unwanted_is : is_unwanted (look_at t named base pages host f) ≡ (named && amiss)
+  unwanted_is : (asked : Bool) → is_unwanted (look_at t (cond asked (Some base) None) pages host f) ≡ (asked && amiss)
   unfolding range_look
-  unwanted_is = none-is named amiss _ _
+  unwanted_is true = none-is true amiss _ (record { unfinished = false })
+  unwanted_is false = refl
 
-  unfinished-is : is_unwanted (look_at t named base pages host f) ≡ false → is_unfinished (look_at t named base pages host f) ≡ (named && waiting)
+  unfinished-is : (asked : Bool) → is_unwanted (look_at t (cond asked (Some base) None) pages host f) ≡ false
+      → is_unfinished (look_at t (cond asked (Some base) None) pages host f) ≡ (asked && waiting)
   unfolding range_look
-  unfinished-is = said is_unfinished named amiss _ _ refl
+  unfinished-is true = said is_unfinished true amiss _ (record { unfinished = false }) refl
+  unfinished-is false = λ _. refl
+
+-- pages that are in the table where they are asked for
+pub asked_in : (asked : Bool) (base pages : ℕ) (b : List ℕ) → (asked ≡ true → (memory ≤ base) × (8 * (index base + pages) ≤ length b)) → InTable (cond asked (Some base) None) pages b
+asked_in true base pages b h = h refl
+asked_in false base pages b h = tt
 
 -- ---- guest pages, and the whole
 module _ (l : Ledger) (t : Table) (c : Call) where
@@ -95,13 +106,13 @@ module _ (l : Ledger) (t : Table) (c : Call) where
   among false false true x = refl
 
   abbrev host_look : Option AllWanted
-  host_look = look_at t (names HostBase c) (arg HostBase c) (size c) true l.global
+  host_look = look_at t (named HostBase c) (size c) true l.global
 
   abbrev directory_look : Option AllWanted
-  directory_look = look_at t (names DirectoryBase c) (arg DirectoryBase c) 4 false l.global
+  directory_look = look_at t (named DirectoryBase c) 4 false l.global
 
   abbrev free_look : Option AllWanted
-  free_look = look_at t (names FreeBase c) (arg FreeBase c) (size c) false l.global
+  free_look = look_at t (named FreeBase c) (size c) false l.global
 
   abbrev sight_of : Option AllWanted → Option AllWanted → Option AllWanted → Option AllMapped → Sight
   sight_of h d f g = record {
@@ -113,15 +124,15 @@ module _ (l : Ledger) (t : Table) (c : Call) where
   pub seen : Seen l t c (sight_of host_look directory_look free_look (guests_at l t c))
   unfolding refuses6 refuses7 refuses14 one_of one_from
   seen = record {
-    six = λ i. (unwanted_is t (names HostBase c) (arg HostBase c) (size c) true l.global ∙ sym (host_spans_lem (any_page l t c (λ p. not (eqb p.kind 0))) c)) i
-        || ((λ j. unwanted_is t (names DirectoryBase c) (arg DirectoryBase c) 4 false l.global j || unwanted_is t (names FreeBase c) (arg FreeBase c) (size c) false l.global j)
+    six = λ i. (unwanted_is t (arg HostBase c) (size c) true l.global (names HostBase c) ∙ sym (host_spans_lem (any_page l t c (λ p. not (eqb p.kind 0))) c)) i
+        || ((λ j. unwanted_is t (arg DirectoryBase c) 4 false l.global (names DirectoryBase c) j || unwanted_is t (arg FreeBase c) (size c) false l.global (names FreeBase c) j)
         ∙ sym (free_spans_lem (any_page l t c (λ p. not (is_free p))) c)) i || unready_is i;
     seven = λ e.
         let h = or_left (is_unwanted host_look || (is_unwanted directory_look || is_unwanted free_look)) (is_unready (guests_at l t c)) e in
         let df = or_right (is_unwanted host_look) (is_unwanted directory_look || is_unwanted free_look) h in
         let g = or_right (is_unwanted host_look || (is_unwanted directory_look || is_unwanted free_look)) (is_unready (guests_at l t c)) e in
-        let ds = unfinished-is t (names DirectoryBase c) (arg DirectoryBase c) 4 false l.global (or_left (is_unwanted directory_look) (is_unwanted free_look) df) in
-        let fs = unfinished-is t (names FreeBase c) (arg FreeBase c) (size c) false l.global (or_right (is_unwanted directory_look) (is_unwanted free_look) df) in
+        let ds = unfinished-is t (arg DirectoryBase c) 4 false l.global (names DirectoryBase c) (or_left (is_unwanted directory_look) (is_unwanted free_look) df) in
+        let fs = unfinished-is t (arg FreeBase c) (size c) false l.global (names FreeBase c) (or_right (is_unwanted directory_look) (is_unwanted free_look) df) in
         λ i. ((λ j. ds j || fs j) ∙ sym (free_spans_lem (any_page l t c (unfinished l.global)) c)) i
         || (ap (λ (b : Bool). (eqb c.number 18 || eqb c.number 19) && b) (undone_is g) ∙ among (eqb c.number 17) (eqb c.number 18) (eqb c.number 19) undone) i;
     fourteen = λ e. cut_is (or_right (is_unwanted host_look || (is_unwanted directory_look || is_unwanted free_look)) (is_unready (guests_at l t c)) e);

@@ -1,6 +1,6 @@
 -- What a look at the records that a call names says of refusals 6, 7 and 14. It ends at the first record that is not as wanted, so 7 and 14 are
 -- known only where 6 does not hold.
-use Rattle.std.specs.Prelude.{ℕ, ◌+◌, ◌*◌, ◌≤◌, Bool, true, false, cond, List, length, ◌≡◌, Option, None, Some, is_none}
+use Rattle.std.specs.Prelude.{ℕ, ◌+◌, ◌*◌, ◌≤◌, Bool, false, cond, List, length, ◌≡◌, Option, None, Some, is_none, ⊤}
 use Rattle.sets.specs.Terms.{row}
 use Rattle.rules.specs.Page.{Table}
 use Rattle.rules.specs.Fence.{Tracker}
@@ -33,12 +33,14 @@ has_cut None = false
 has_cut (Some m) = m.cut
 
 -- pages that the call names are in the table
-abbrev pub InTable : Bool → ℕ → ℕ → List ℕ → Type 0
-InTable named base pages b = named ≡ true → (memory ≤ base) × (8 * (index base + pages) ≤ length b)
+abbrev pub InTable : Option ℕ → ℕ → List ℕ → Type 0
+InTable None pages b = ⊤
+InTable (Some base) pages b = (memory ≤ base) × (8 * (index base + pages) ≤ length b)
 
 -- a look at pages, where the call names them; nothing is amiss with none
-abbrev pub look_at : Table → Bool → ℕ → ℕ → Bool → Tracker → Option AllWanted
-look_at t named base pages host fence = cond named (range_look t (index base) pages host fence) (Some (record { unfinished = false }))
+abbrev pub look_at : Table → Option ℕ → ℕ → Bool → Tracker → Option AllWanted
+look_at t None pages host fence = Some (record { unfinished = false })
+look_at t (Some base) pages host fence = range_look t (index base) pages host fence
 
 -- a look at the guest pages of 17 to 19
 abbrev pub guests_at : Ledger → Table → Call → Option AllMapped

@@ -33,21 +33,21 @@ pub fn index_of(base: u64) -> usize
     ((base - MEMORY) / 4096) as usize
 }
 
+// At pages from an address on; nothing is amiss where the call names none.
 fn look_at(
     t: &[u8],
-    named: bool,
-    base: u64,
+    base: Option<u64>,
     pages: u64,
     host: bool,
     fence: GlobalTracker,
 ) -> Option<AllWanted>
-    requires { InTable named base pages t.now }
-    ensures { result ≡ look_at (pages_of t.now) named base pages host (global_of fence) }
+    requires { InTable base pages t.now }
+    ensures { result ≡ look_at (pages_of t.now) base pages host (global_of fence) }
 {
-    if named {
-        return range::look(t, index_of(base), pages as usize, host, fence);
+    match base {
+        None => Some(AllWanted { unfinished: false }),
+        Some(base) => range::look(t, index_of(base), pages as usize, host, fence),
     }
-    Some(AllWanted { unfinished: false })
 }
 
 // 17 to 19.
@@ -98,30 +98,9 @@ fn look_at_all(l: &Words, t: &[u8], r: &Request, pages: u64) -> Sight
     ensures { Seen (view l.now) (pages_of t.now) r.now result }
 {
     let fence = parts::global(l);
-    let host = look_at(
-        t,
-        r.names(Role::HostBase),
-        r.arg(Role::HostBase),
-        pages,
-        true,
-        fence,
-    );
-    let directory = look_at(
-        t,
-        r.names(Role::DirectoryBase),
-        r.arg(Role::DirectoryBase),
-        4,
-        false,
-        fence,
-    );
-    let free = look_at(
-        t,
-        r.names(Role::FreeBase),
-        r.arg(Role::FreeBase),
-        pages,
-        false,
-        fence,
-    );
+    let host = look_at(t, r.named(Role::HostBase), pages, true, fence);
+    let directory = look_at(t, r.named(Role::DirectoryBase), 4, false, fence);
+    let free = look_at(t, r.named(Role::FreeBase), pages, false, fence);
     let guests = guests_at(l, t, r, pages);
     let refuses6 = host.is_none() | (directory.is_none() | free.is_none()) | guests.is_none();
     let refuses7 = (directory.is_some_and(|w| w.unfinished) | free.is_some_and(|w| w.unfinished))

@@ -6,14 +6,15 @@ use mathlib.Core.Bool.{Bool, true, false, ◌&&◌, ◌||◌}
 use mathlib.Core.List.{List}
 use lib.Dec.{eqb}
 use borrow.Author.Tests.{le-ltb}
+use Rattle.std.specs.Prelude.{Option, None, Some}
 use Rattle.sets.proofs.Bools.{or_false}
 use Rattle.rules.specs.Encoding.{view, view_of}
 use Rattle.seats.specs.Harts.{there_of}
 
-pub far_outside : (ws : List ℕ) (whole : Bool) (k v j : ℕ) → 8 ≤ j → there_of (view ws) whole k v j ≡ false
+pub far_outside : (ws : List ℕ) (k : ℕ) (vcpu : Option ℕ) (j : ℕ) → 8 ≤ j → there_of (view ws) k vcpu j ≡ false
 unfolding view_of
-far_outside ws true k v j h = rw (le-ltb j 8 h)
-far_outside ws false k v j h = rw (le-ltb j 8 h)
+far_outside ws k None j h = rw (le-ltb j 8 h)
+far_outside ws k (Some v) j h = rw (le-ltb j 8 h)
 
 -- ---- conditions of one call, by its number
 -- the conditions of two calls, k and j

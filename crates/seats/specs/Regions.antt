@@ -1,8 +1,9 @@
--- The parts of refusal 10, told apart by a test.
-use Rattle.std.specs.Prelude.{ℕ, Bool, cond}
-use Rattle.rules.specs.Ledger.{Region}
-use Rattle.rules.specs.Refusals.{holds, overlaps}
+-- What a closure asks of a region.
+use Rattle.std.specs.Prelude.{Bool, ◌≡◌}
+use Rattle.rules.specs.Ledger.{Region as Described}
+use Rattle.words.specs.declared.parts.Region.{Region}
+use Rattle.words.specs.Parts.{region_of}
 
--- a region that holds the range, or one that overlaps it
-abbrev pub meets : Bool → ℕ → ℕ → Region → Bool
-meets whole first pages r = cond whole (holds first pages r) (overlaps first pages r)
+-- its answer is that of the test
+abbrev pub Tests : (Region → Bool → Type 0) → (Described → Bool) → Type 0
+Tests post p = (g : Region) (x : Bool) → post g x → x ≡ p (region_of g)

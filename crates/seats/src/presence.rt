@@ -22,27 +22,24 @@ fn is_outside(l: &Words, h: u64) -> bool
     parts::place_of(l, h).is_none()
 }
 
-// The place is in the slot: at any of its vCPUs, or at that one.
-fn is_there(p: Option<Seat>, whole: bool, k: u64, v: u64) -> bool
-    ensures { result ≡ is_there whole k v (place_is p) }
+// The place is in the slot, at that vCPU, or at any where none is given.
+fn is_there(p: Option<Seat>, k: u64, vcpu: Option<u64>) -> bool
+    ensures { result ≡ is_there k vcpu (place_is p) }
 {
-    match p {
-        None => false,
-        Some(seat) => {
-            let same = seat.slot as u64 == k;
-            let at = seat.vcpu as u64 == v;
-            same & (whole | at)
-        }
+    match (p, vcpu) {
+        (None, _) => false,
+        (Some(seat), None) => seat.slot as u64 == k,
+        (Some(seat), Some(v)) => (seat.slot as u64 == k) & (seat.vcpu as u64 == v),
     }
 }
 
 // The harts that are there, as a set in a byte.
-pub fn there(l: &Words, whole: bool, k: u64, v: u64) -> u8
-    ensures { bits result ≡ there_of (view l.now) whole k v }
+pub fn there(l: &Words, k: u64, vcpu: Option<u64>) -> u8
+    ensures { bits result ≡ there_of (view l.now) k vcpu }
 {
     let mut set: u8 = 0;
     for h in 0..8u8 {
-        if is_there(parts::place_of(l, h as u64), whole, k, v) {
+        if is_there(parts::place_of(l, h as u64), k, vcpu) {
             set = sets::insert(set, h as usize);
         }
     }
@@ -56,8 +53,8 @@ fn is_busy(l: &Words, r: &Request) -> bool
     let tvm = r.arg(Role::Tvm);
     let vcpu = r.arg(Role::Vcpu);
     (r.is(Operation::Vcpu) && is_made(l, tvm, vcpu))
-        || (r.is(Operation::Enter) && is_awaited(there(l, false, tvm, vcpu)))
-        || (r.is(Operation::Destroy) && is_awaited(there(l, true, tvm, vcpu)))
+        || (r.is(Operation::Enter) && is_awaited(there(l, tvm, Some(vcpu))))
+        || (r.is(Operation::Destroy) && is_awaited(there(l, tvm, None)))
 }
 
 #[tactic(auto, using(crate::proofs::Seats::before_three), unfolding(rules::specs::Refusals::refuses12, sets::specs::Terms::one_of, sets::specs::Terms::one_from))]

@@ -5,7 +5,7 @@ ghost use Rattle.rules.specs.Refusals as n;
 ghost use Rattle.rules.specs.Encoding.{view, pages_of};
 ghost use Rattle.words.specs.Parts.{region_of};
 ghost use Rattle.door.specs.Ready.{Ready};
-ghost use Rattle.seats.specs.Regions.{meets};
+ghost use Rattle.seats.specs.Regions.{Tests};
 
 use door::request::Request;
 use rules::Role;
@@ -34,26 +34,15 @@ fn holds(r: Region, first: u64, pages: u64) -> bool
     (from <= first) & (end <= to)
 }
 
-fn is_met(l: &Words, k: u64, i: u64, whole: bool, first: u64, pages: u64) -> bool
-    requires { first + pages ≤ 1048576 }
-    ensures { result ≡ meets whole first pages (((view l.now).slot k).region i) }
+// Some region of the slot passes.
+fn any_region<F: Fn(Region) -> bool>(l: &Words, k: u64, test: F) -> bool
+    requires { F.IsAlwaysCallable test }
+    ensures { (p : _) → Tests (F.post test) p → result ≡ any (λ i. p (((view l.now).slot k).region i)) 8 }
 {
-    let r = parts::region_at(l, k, i);
-    if whole {
-        return holds(r, first, pages);
-    }
-    overlaps(r, first, pages)
+    (0..8).any(|i| test(parts::region_at(l, k, i)))
 }
 
-// Some region of the slot holds the whole range, or overlaps it.
-fn meets_any(l: &Words, k: u64, whole: bool, first: u64, pages: u64) -> bool
-    requires { first + pages ≤ 1048576 }
-    ensures { result ≡ any (λ i. meets whole first pages (((view l.now).slot k).region i)) 8 }
-{
-    (0..8).any(|i| is_met(l, k, i, whole, first, pages))
-}
-
-#[tactic(auto, using(door::proofs::Ready::guest_fits, door::proofs::Ready::region_guest, door::proofs::Ready::region_untyped, door::proofs::Ready::typed_guest), unfolding(rules::specs::Refusals::refuses10))]
+#[tactic(auto, using(door::proofs::Ready::guest_fits, door::proofs::Ready::region_guest, door::proofs::Ready::typed_guest), unfolding(rules::specs::Refusals::refuses10))]
 pub fn refuses10(l: &Words, t: &[u8], r: &Request, pages: u64) -> bool
     requires { Ready l.now t.now r.now pages }
     ensures { result ≡ n.refuses10 (view l.now) (pages_of t.now) r.now }
@@ -61,10 +50,10 @@ pub fn refuses10(l: &Words, t: &[u8], r: &Request, pages: u64) -> bool
     let tvm = r.arg(Role::Tvm);
     let first = r.arg(Role::GuestBase) / 4096;
     if r.is(Operation::Region) {
-        return meets_any(l, tvm, false, first, pages);
+        return any_region(l, tvm, |g| overlaps(g, first, pages));
     }
     if r.names(Role::UnitType) {
-        return !meets_any(l, tvm, true, first, pages);
+        return !any_region(l, tvm, |g| holds(g, first, pages));
     }
     false
 }

@@ -4,17 +4,17 @@ use mathlib.Core.Bool.{◌&&◌, ◌||◌, true, false}
 use Rattle.rules.specs.Encoding.{view, pages_of}
 use Rattle.looks.specs.Sights.{Seen, is_unwanted, is_unfinished, is_unready, is_undone, has_cut, look_at}
 use Rattle.door.proofs.Ready.{host_fits, directory_fits, free_fits}
-use Rattle.looks.proofs.Sights.{of_none, of_some, seen}
+use Rattle.looks.proofs.Sights.{asked_in, of_none, of_some, seen}
 use Rattle.looks.proofs.sight.look_at_all.Goals as goal
 
 pub look_at-host-requires : goal.look_at-host-requires
-look_at-host-requires c = λ e. rw c.arg.ensures (host_fits c.requires (sym c.names.ensures ∙ e))
+look_at-host-requires c = rw c.named.ensures (asked_in _ _ _ _ (host_fits c.requires))
 
 pub look_at-directory-requires : goal.look_at-directory-requires
-look_at-directory-requires c = λ e. rw c.arg-2.ensures (directory_fits c.requires (sym c.names-2.ensures ∙ e))
+look_at-directory-requires c = rw c.named-2.ensures (asked_in _ _ _ _ (directory_fits c.requires))
 
 pub look_at-free-requires : goal.look_at-free-requires
-look_at-free-requires c = λ e. rw c.arg-3.ensures (free_fits c.requires (sym c.names-3.ensures ∙ e))
+look_at-free-requires c = rw c.named-3.ensures (asked_in _ _ _ _ (free_fits c.requires))
 
 pub returns : goal.returns
 returns c =
@@ -22,9 +22,9 @@ returns c =
     let l = view c.args.l.now in
     let t = pages_of c.args.t.now in
     let fence = c.global-fence.ensures in
-    let host = c.look_at-host.ensures ∙ (λ i. look_at t (c.names.ensures i) (c.arg.ensures i) (c.requires.sized i) true (fence i)) in
-    let directory = c.look_at-directory.ensures ∙ (λ i. look_at t (c.names-2.ensures i) (c.arg-2.ensures i) 4 false (fence i)) in
-    let free = c.look_at-free.ensures ∙ (λ i. look_at t (c.names-3.ensures i) (c.arg-3.ensures i) (c.requires.sized i) false (fence i)) in
+    let host = c.look_at-host.ensures ∙ (λ i. look_at t (c.named.ensures i) (c.requires.sized i) true (fence i)) in
+    let directory = c.look_at-directory.ensures ∙ (λ i. look_at t (c.named-2.ensures i) 4 false (fence i)) in
+    let free = c.look_at-free.ensures ∙ (λ i. look_at t (c.named-3.ensures i) (c.requires.sized i) false (fence i)) in
     let guests = c.guests_at-guests.ensures in
     let directory_waits : c.is_some_and.result ≡ is_unfinished c.look_at-directory.result = of_some is_unfinished c.look_at-directory.result c.is_some_and.result _ refl c.is_some_and.ensures (λ w h. search rules) in
     let free_waits : c.is_some_and-2.result ≡ is_unfinished c.look_at-free.result = of_some is_unfinished c.look_at-free.result c.is_some_and-2.result _ refl c.is_some_and-2.ensures (λ w h. search rules) in

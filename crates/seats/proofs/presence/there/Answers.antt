@@ -12,8 +12,8 @@ loop-h-init c = upto_none _
 
 pub loop-h-preserved : goal.loop-h-preserved
 loop-h-preserved c =
-    let p = there_of (view c.args.l.now) c.args.whole c.args.k c.args.v in
-    let q : p c.loop-h.h ≡ c.is_there.result = sym (c.is_there.ensures ∙ ap (is_there c.args.whole c.args.k c.args.v) c.place_of.ensures) in
+    let p = there_of (view c.args.l.now) c.args.k c.args.vcpu in
+    let q : p c.loop-h.h ≡ c.is_there.result = sym (c.is_there.ensures ∙ ap (is_there c.args.k c.args.vcpu) c.place_of.ensures) in
     elim c.if-is_there.branch [
       | then-is_there w ↦ rw (w.set-is, w.insert-set.ensures) (upto_with p c.loop-h.h c.loop-h.set c.loop-h.invariant (q ∙ w.if-is_there.true))
       | else-is_there w ↦ rw w.set-is (upto_skip p c.loop-h.h c.loop-h.set c.loop-h.invariant (q ∙ w.if-is_there.false))
@@ -23,5 +23,5 @@ pub returns : goal.returns
 returns c =
     let s = c.args in
     let e : c.loop-h.h ≡ 8 = omega arith in
-    let p = there_of (view s.l.now) s.whole s.k s.v in
-    c.loop-h.invariant ∙ ap (upto p) e ∙ upto_all p (λ j l. far_outside s.l.now s.whole s.k s.v j l)
+    let p = there_of (view s.l.now) s.k s.vcpu in
+    c.loop-h.invariant ∙ ap (upto p) e ∙ upto_all p (λ j l. far_outside s.l.now s.k s.vcpu j l)
