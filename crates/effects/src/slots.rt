@@ -11,11 +11,11 @@ ghost use Rattle.effects.specs.Parts.{added, cleared, peopled};
 use fences::TvmTracker;
 use rules::numbers::Phase;
 use seats::room::unused;
+use words::below::{Slot, Vcpu};
 use words::parts::Region;
 use words::{Words, parts};
 
-fn clear_regions(l: &mut Words, k: u64)
-    requires { k < 16 }
+fn clear_regions(l: &mut Words, k: Slot)
     ensures { view l.new ≡ with_slot k (cleared ((view l.old).slot k)) (view l.old) }
 {
     for i in 0..8 {
@@ -24,8 +24,7 @@ fn clear_regions(l: &mut Words, k: u64)
 }
 
 // A slot of that phase and fence, with no vCPUs and no regions.
-fn bare(l: &mut Words, k: u64, phase: u32, t: TvmTracker)
-    requires { k < 16 }
+fn bare(l: &mut Words, k: Slot, phase: u32, t: TvmTracker)
     ensures { view l.new ≡ with_slot k (bare_with phase (tvm_of t)) (view l.old) }
 {
     clear_regions(&mut *l, k);
@@ -34,25 +33,23 @@ fn bare(l: &mut Words, k: u64, phase: u32, t: TvmTracker)
 }
 
 // "Slot versions outlive TVMs": the fence stays as it is.
-pub fn create(l: &mut Words, k: u64)
-    requires { k < 16 }
+pub fn create(l: &mut Words, k: Slot)
     ensures { view l.new ≡ with_slot k (bare_with 1 ((view l.old).slot k).fence) (view l.old) }
 {
-    let t = parts::fence(&*l, k);
+    let t = parts::fence(&*l, k.number());
     bare(l, k, Phase::Initializing as u32, t);
 }
 
-pub fn destroy(l: &mut Words, k: u64)
-    requires { k < 16 }
+pub fn destroy(l: &mut Words, k: Slot)
     ensures { view l.new ≡ with_slot k (destroyed ((view l.old).slot k)) (view l.old) }
 {
-    let t = parts::fence(&*l, k);
+    let t = parts::fence(&*l, k.number());
     bare(l, k, Phase::Empty as u32, t.ended());
 }
 
 // The region takes the lowest place that has none.
-pub fn add_region(l: &mut Words, k: u64, first: u64, pages: u64)
-    requires { (k < 16) × (first + pages ≤ 1048576) × (lowest (n.unused ((view l.old).slot k)) 8 < 8) }
+pub fn add_region(l: &mut Words, k: Slot, first: u64, pages: u64)
+    requires { (first + pages ≤ 1048576) × (lowest (n.unused ((view l.old).slot k)) 8 < 8) }
     ensures { view l.new ≡ with_slot k (added first pages ((view l.old).slot k)) (view l.old) }
 {
     let r = Region {
@@ -60,16 +57,15 @@ pub fn add_region(l: &mut Words, k: u64, first: u64, pages: u64)
         pages: pages as u32,
     };
     // There is one; `unwrap` says so too, and leaves a trap in the library's code, which has none.
-    if let Some(i) = unused(&*l, k) {
+    if let Some(i) = unused(&*l, k.number()) {
         parts::set_region(l, k, i, r);
     }
 }
 
-pub fn make_vcpu(l: &mut Words, k: u64, v: u64)
-    requires { (k < 16) × (v < 8) }
+pub fn make_vcpu(l: &mut Words, k: Slot, v: Vcpu)
     ensures { view l.new ≡ with_slot k (peopled v ((view l.old).slot k)) (view l.old) }
 {
-    let t = parts::fence(&*l, k);
-    let made = parts::made(&*l, k);
-    parts::set_made(l, k, t, sets::insert(made, v as usize));
+    let t = parts::fence(&*l, k.number());
+    let made = parts::made(&*l, k.number());
+    parts::set_made(l, k, t, sets::insert(made, v.number() as usize));
 }

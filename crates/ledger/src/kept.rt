@@ -11,6 +11,7 @@ use effects::{entering, fencing, slots};
 use rules::Role;
 use rules::numbers::{Operation, Phase};
 use seats::room::taken;
+use words::below::{Hart, Slot, Vcpu};
 use words::{Words, parts, sizes};
 
 // The value is the slot.
@@ -22,7 +23,7 @@ fn create(l: &mut Words) -> u64
     let Some(k) = taken(&*l) else {
         return 0;
     };
-    slots::create(l, k);
+    slots::create(l, Slot::new(k));
     k
 }
 
@@ -33,13 +34,13 @@ fn on_slots(l: &mut Words, r: &Request, pages: u64) -> u64
 {
     let tvm = r.arg(Role::Tvm);
     if r.is(Operation::Finalize) {
-        parts::set_phase(l, tvm, Phase::Runnable as u32)
+        parts::set_phase(l, Slot::new(tvm), Phase::Runnable as u32)
     } else if r.is(Operation::Destroy) {
-        slots::destroy(l, tvm)
+        slots::destroy(l, Slot::new(tvm))
     } else if r.is(Operation::Region) {
-        slots::add_region(l, tvm, r.arg(Role::GuestBase) / 4096, pages)
+        slots::add_region(l, Slot::new(tvm), r.arg(Role::GuestBase) / 4096, pages)
     } else if r.is(Operation::Vcpu) {
-        slots::make_vcpu(l, tvm, r.arg(Role::Vcpu))
+        slots::make_vcpu(l, Slot::new(tvm), Vcpu::new(r.arg(Role::Vcpu)))
     } else if r.is(Operation::Open) {
         sizes::open(
             l,
@@ -57,17 +58,22 @@ pub fn on_ledger(l: &mut Words, r: &Request, pages: u64) -> u64
     let hart = r.hart();
     let tvm = r.arg(Role::Tvm);
     if r.is(Operation::GlobalFence) {
-        fencing::global_fence(l, hart)
+        fencing::global_fence(l, Hart::new(hart))
     } else if r.is(Operation::LocalFence) {
-        fencing::local_fence(l, hart)
+        fencing::local_fence(l, Hart::new(hart))
     } else if r.is(Operation::Create) {
         create(l)
     } else if r.is(Operation::Enter) {
-        entering::enter(l, hart, tvm, r.arg(Role::Vcpu))
+        entering::enter(
+            l,
+            Hart::new(hart),
+            Slot::new(tvm),
+            Vcpu::new(r.arg(Role::Vcpu)),
+        )
     } else if r.is(Operation::TvmFence) {
-        fencing::tvm_fence(l, tvm)
+        fencing::tvm_fence(l, Slot::new(tvm))
     } else if r.is(Operation::Leave) {
-        entering::leave(l, hart)
+        entering::leave(l, Hart::new(hart))
     } else {
         on_slots(l, r, pages)
     }

@@ -3,6 +3,7 @@
 
 #![tactic(auto)]
 
+pub mod below;
 pub mod cells;
 pub mod parts;
 pub mod sizes;

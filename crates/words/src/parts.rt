@@ -1,5 +1,5 @@
 // The parts of the ledger: fences, phases, vCPUs, regions, places and marks.
-ghost use Rattle.std.specs.Prelude.{◌≡◌, ◌+◌, ◌*◌, ◌<◌};
+ghost use Rattle.std.specs.Prelude.{◌≡◌, ◌<◌};
 ghost use Rattle.std.proofs.Math.Option.{some};
 ghost use Rattle.sets.specs.Terms.{put as store};
 ghost use Rattle.rules.specs.Ledger.{with_global, with_slot, with_hart, with_fence, slot as slot_with, inside, outside, flushes};
@@ -8,6 +8,7 @@ ghost use Rattle.fences.specs.Trackers.{tracked, global_of, tvm_of};
 ghost use Rattle.words.specs.Parts.{Packed, region_of, place_is};
 
 use super::Words;
+use super::below::{Hart, Slot, Vcpu};
 use super::cells::{cell, in_part, put, upper, word};
 use fences::{GlobalTracker, Tracker, TvmTracker, TvmVersion, Version};
 
@@ -77,20 +78,19 @@ pub fn made(l: &Words, k: u64) -> u8
     upper(fence_word(l, k))
 }
 
-pub fn set_fence(l: &mut Words, k: u64, t: TvmTracker)
-    requires { k < 16 }
+pub fn set_fence(l: &mut Words, k: Slot, t: TvmTracker)
     ensures { view l.new ≡ with_slot k (with_fence (tvm_of t) ((view l.old).slot k)) (view l.old) }
 {
+    let k = k.number();
     let made = upper(fence_word(&*l, k));
     put(l, FENCES + k as usize, pack(t, made));
 }
 
 // A fence with the vCPUs that are made from now on.
-pub fn set_made(l: &mut Words, k: u64, t: TvmTracker, vcpus: u8)
-    requires { k < 16 }
+pub fn set_made(l: &mut Words, k: Slot, t: TvmTracker, vcpus: u8)
     ensures { view l.new ≡ with_slot k (slot_with ((view l.old).slot k).phase (tvm_of t) (bits vcpus) ((view l.old).slot k).region) (view l.old) }
 {
-    put(l, FENCES + k as usize, pack(t, vcpus));
+    put(l, FENCES + k.number() as usize, pack(t, vcpus));
 }
 
 pub fn phase(l: &Words, k: u64) -> u32
@@ -99,11 +99,10 @@ pub fn phase(l: &Words, k: u64) -> u32
     in_part(l, PHASES, 16, k)
 }
 
-pub fn set_phase(l: &mut Words, k: u64, phase: u32)
-    requires { k < 16 }
+pub fn set_phase(l: &mut Words, k: Slot, phase: u32)
     ensures { view l.new ≡ with_slot k (slot_with phase ((view l.old).slot k).fence ((view l.old).slot k).made ((view l.old).slot k).region) (view l.old) }
 {
-    put(l, PHASES + k as usize, phase);
+    put(l, PHASES + k.number() as usize, phase);
 }
 
 pub fn region_at(l: &Words, k: u64, i: u64) -> Region
@@ -114,11 +113,11 @@ pub fn region_at(l: &Words, k: u64, i: u64) -> Region
     Region { first, pages }
 }
 
-pub fn set_region(l: &mut Words, k: u64, i: u64, r: Region)
-    requires { (k < 16) × (i < 8) }
+pub fn set_region(l: &mut Words, k: Slot, i: u64, r: Region)
+    requires { i < 8 }
     ensures { view l.new ≡ with_slot k (slot_with ((view l.old).slot k).phase ((view l.old).slot k).fence ((view l.old).slot k).made (store i (region_of r) ((view l.old).slot k).region)) (view l.old) }
 {
-    let at = (8 * k + i) as usize;
+    let at = (8 * k.number() + i) as usize;
     put(&mut *l, FIRSTS + at, r.first);
     put(l, LENGTHS + at, r.pages);
 }
@@ -142,18 +141,17 @@ pub fn place_of(l: &Words, h: u64) -> Option<Seat>
     })
 }
 
-pub fn set_outside(l: &mut Words, h: u64)
-    requires { h < 8 }
+pub fn set_outside(l: &mut Words, h: Hart)
     ensures { view l.new ≡ with_hart h (record { place = outside; mark = ((view l.old).hart h).mark }) (view l.old) }
 {
-    put(l, PLACES + h as usize, 0);
+    put(l, PLACES + h.number() as usize, 0);
 }
 
 // Inside the vCPU of a slot, with the slot's version as the mark.
-pub fn set_inside(l: &mut Words, h: u64, k: u64, v: u64, version: TvmVersion)
-    requires { (h < 8) × (k < 16) × (v < 8) }
+pub fn set_inside(l: &mut Words, h: Hart, k: Slot, v: Vcpu, version: TvmVersion)
     ensures { view l.new ≡ with_hart h (record { place = inside k v; mark = store k (some version.0) ((view l.old).hart h).mark }) (view l.old) }
 {
+    let (h, k, v) = (h.number(), k.number(), v.number());
     put(&mut *l, PLACES + h as usize, (8 * k + v + 1) as u32);
     put(l, MARKS + (16 * h + k) as usize, version.0 as u32 + 1);
 }

@@ -12,8 +12,8 @@ returns-then-k-lt16 c =
     let l = view c.args.l.now in
     let k = c.args.k in
     let h = c.args.h in
-    let struck : tvm_of c.strike.new.self ≡ strike h (l.slot k).fence = ap tvm_of c.strike.ensures ∙ tvm_strike c.fence-t.result h ∙ ap (strike h) c.fence-t.ensures in
-    c.set_fence.ensures ∙ (λ i. with_slot k (with_fence (struck i) (l.slot k)) l)
+    let struck : tvm_of c.strike.new.self ≡ strike h (l.slot k).fence = ap tvm_of (rw c.number.ensures.is at c.strike.ensures) ∙ tvm_strike c.fence-t.result h ∙ ap (strike h) c.fence-t.ensures in
+    rw c.«new».ensures at c.set_fence.ensures ∙ (λ i. with_slot k (with_fence (struck i) (l.slot k)) l)
 
 pub returns-else-k-lt16 : goal.returns-else-k-lt16
 returns-else-k-lt16 c = let a = c.args in past_slots a.l.now a.k a.h c.if-k-lt16.false

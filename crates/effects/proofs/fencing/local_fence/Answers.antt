@@ -10,5 +10,5 @@ pub returns : goal.returns
 returns c =
     let l = view c.args.l.now in
     let h = c.args.hart in
-    let struck : global_of c.struck-rest.result ≡ strike h l.global = ap global_of c.struck-rest.ensures ∙ global-strike c.global-g.result h ∙ ap (strike h) c.global-g.ensures in
+    let struck : global_of c.struck-rest.result ≡ strike h l.global = ap global_of (rw c.number.ensures.is at c.struck-rest.ensures) ∙ global-strike c.global-g.result h ∙ ap (strike h) c.global-g.ensures in
     (c.how_many.ensures ∙ (λ i. number (struck i).awaited), c.set_global.ensures ∙ (λ i. with_global (struck i) l))

@@ -11,5 +11,6 @@ returns c =
     let l = view c.args.l.now in
     let k = c.args.k in
     let v = c.args.v in
-    let made = ap bits c.insert.ensures ∙ bits-with c.made-made.result v ∙ ap (put v true) c.made-made.ensures in
-    c.set_made.ensures ∙ (λ i. with_slot k (slot (l.slot k).phase (c.fence-t.ensures i) (made i) (l.slot k).region) l)
+    let made = ap bits (rw c.number-3.ensures.is at c.insert.ensures) ∙ bits-with c.made-made.result v ∙ ap (put v true) (rw c.number-2.ensures.is at c.made-made.ensures) in
+    let fence = rw c.number.ensures.is at c.fence-t.ensures in
+    c.set_made.ensures ∙ (λ i. with_slot k (slot (l.slot k).phase (fence i) (made i) (l.slot k).region) l)

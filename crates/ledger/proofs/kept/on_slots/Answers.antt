@@ -1,4 +1,5 @@
 use mathlib.Core.Path.{refl, sym, ◌∙◌}
+use native.Mathlib.Omega.{arith}
 use borrow.Author.Tests.{eqb-true}
 use borrow.Author.Rules.{rules}
 use Rattle.sets.specs.Terms.{one_of, one_from}
@@ -9,13 +10,17 @@ use Rattle.ledger.proofs.Lawful.{tvm_low, vcpu_low, guests_low, region_free, ope
 use Rattle.ledger.proofs.ByNumber.{kept, call_6, call_8, call_9, call_14, call_33, call_none}
 use Rattle.ledger.proofs.kept.on_slots.Goals as goal
 
-pub set_phase-requires : goal.set_phase-requires
+pub new-requires : goal.new-requires
 unfolding entry_of one_of one_from
-set_phase-requires c = rw (c.arg-tvm.ensures) (tvm_low _ c.args.r.now c.requires.0 (named_at 6 Tvm c.args.r.now (eqb-true _ 6 (sym c.is.ensures ∙ c.if-is.true))))
+new-requires c = (omega arith, rw (c.arg-tvm.ensures) (tvm_low _ c.args.r.now c.requires.0 (named_at 6 Tvm c.args.r.now (eqb-true _ 6 (sym c.is.ensures ∙ c.if-is.true)))))
 
-pub destroy-requires : goal.destroy-requires
+pub new-requires-then-is-2 : goal.new-requires-then-is-2
 unfolding entry_of one_of one_from
-destroy-requires c = rw (c.arg-tvm.ensures) (tvm_low _ c.args.r.now c.requires.0 (named_at 8 Tvm c.args.r.now (eqb-true _ 8 (sym c.is-else-is.ensures ∙ c.if-is-2.true))))
+new-requires-then-is-2 c = (omega arith, rw (c.arg-tvm.ensures) (tvm_low _ c.args.r.now c.requires.0 (named_at 8 Tvm c.args.r.now (eqb-true _ 8 (sym c.is-else-is.ensures ∙ c.if-is-2.true)))))
+
+pub new-requires-then-is-3 : goal.new-requires-then-is-3
+unfolding entry_of one_of one_from
+new-requires-then-is-3 c = (omega arith, rw (c.arg-tvm.ensures) (tvm_low _ c.args.r.now c.requires.0 (named_at 9 Tvm c.args.r.now (eqb-true _ 9 (sym c.is-else-is-2.ensures ∙ c.if-is-3.true)))))
 
 pub add_region-requires : goal.add_region-requires
 unfolding entry_of one_of one_from
@@ -23,15 +28,15 @@ add_region-requires c =
     let p = c.requires.0 in
     let q = c.args.r.now in
     let e = (eqb-true _ 9 (sym c.is-else-is-2.ensures ∙ c.if-is-3.true)) in
-    rw (c.arg-tvm.ensures, c.arg.ensures, c.requires.1) (tvm_low _ q p (named_at 9 Tvm q e), guests_low _ q p (named_at 9 GuestBase q e), region_free _ q p e)
+    rw (c.new-then-is-3.ensures, c.arg-tvm.ensures, c.arg.ensures, c.requires.1) (guests_low _ q p (named_at 9 GuestBase q e), region_free _ q p e)
 
-pub make_vcpu-requires : goal.make_vcpu-requires
+pub new-requires-then-is-4 : goal.new-requires-then-is-4
 unfolding entry_of one_of one_from
-make_vcpu-requires c =
-    let p = c.requires.0 in
-    let q = c.args.r.now in
-    let e = (eqb-true _ 14 (sym c.is-else-is-3.ensures ∙ c.if-is-4.true)) in
-    rw (c.arg-tvm.ensures, c.arg-then-is-4.ensures) (tvm_low _ q p (named_at 14 Tvm q e), vcpu_low _ q p (named_at 14 Vcpu q e))
+new-requires-then-is-4 c = (omega arith, rw (c.arg-tvm.ensures) (tvm_low _ c.args.r.now c.requires.0 (named_at 14 Tvm c.args.r.now (eqb-true _ 14 (sym c.is-else-is-3.ensures ∙ c.if-is-4.true)))))
+
+pub new-requires-then-is-4-2 : goal.new-requires-then-is-4-2
+unfolding entry_of one_of one_from
+new-requires-then-is-4-2 c = (omega arith, rw (c.arg-then-is-4.ensures) (vcpu_low _ c.args.r.now c.requires.0 (named_at 14 Vcpu c.args.r.now (eqb-true _ 14 (sym c.is-else-is-3.ensures ∙ c.if-is-4.true)))))
 
 pub overflow_cast-arg : goal.overflow_cast-arg
 overflow_cast-arg c =
@@ -44,16 +49,16 @@ overflow_cast-arg-then-is-5 c =
     search rules
 
 pub returns-then-is : goal.returns-then-is
-returns-then-is c = kept _ _ (call_6 _ c.args.r.now (eqb-true _ 6 (sym c.is.ensures ∙ c.if-is.true))) refl (c.set_phase.ensures ∙ rw (c.arg-tvm.ensures))
+returns-then-is c = kept _ _ (call_6 _ c.args.r.now (eqb-true _ 6 (sym c.is.ensures ∙ c.if-is.true))) refl (c.set_phase.ensures ∙ rw (c.«new».ensures, c.arg-tvm.ensures))
 
 pub returns-then-is-2 : goal.returns-then-is-2
-returns-then-is-2 c = kept _ _ (call_8 _ c.args.r.now (eqb-true _ 8 (sym c.is-else-is.ensures ∙ c.if-is-2.true))) refl (c.destroy.ensures ∙ rw (c.arg-tvm.ensures))
+returns-then-is-2 c = kept _ _ (call_8 _ c.args.r.now (eqb-true _ 8 (sym c.is-else-is.ensures ∙ c.if-is-2.true))) refl (c.destroy.ensures ∙ rw (c.new-then-is-2.ensures, c.arg-tvm.ensures))
 
 pub returns-then-is-3 : goal.returns-then-is-3
-returns-then-is-3 c = kept _ _ (call_9 _ c.args.r.now (eqb-true _ 9 (sym c.is-else-is-2.ensures ∙ c.if-is-3.true))) refl (c.add_region.ensures ∙ rw (c.arg-tvm.ensures, c.arg.ensures, c.requires.1))
+returns-then-is-3 c = kept _ _ (call_9 _ c.args.r.now (eqb-true _ 9 (sym c.is-else-is-2.ensures ∙ c.if-is-3.true))) refl (c.add_region.ensures ∙ rw (c.new-then-is-3.ensures, c.arg-tvm.ensures, c.arg.ensures, c.requires.1))
 
 pub returns-then-is-4 : goal.returns-then-is-4
-returns-then-is-4 c = kept _ _ (call_14 _ c.args.r.now (eqb-true _ 14 (sym c.is-else-is-3.ensures ∙ c.if-is-4.true))) refl (c.make_vcpu.ensures ∙ rw (c.arg-tvm.ensures, c.arg-then-is-4.ensures))
+returns-then-is-4 c = kept _ _ (call_14 _ c.args.r.now (eqb-true _ 14 (sym c.is-else-is-3.ensures ∙ c.if-is-4.true))) refl (c.make_vcpu.ensures ∙ rw (c.new-then-is-4.ensures, c.new-then-is-4-2.ensures, c.arg-tvm.ensures, c.arg-then-is-4.ensures))
 
 pub returns-then-is-5 : goal.returns-then-is-5
 returns-then-is-5 c = kept _ _ (call_33 _ c.args.r.now (eqb-true _ 33 (sym c.is-else-is-4.ensures ∙ c.if-is-5.true))) refl (c.«open».ensures ∙ rw (c.arg-then-is-5.ensures, c.arg-then-is-5-2.ensures))

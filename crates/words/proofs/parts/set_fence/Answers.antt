@@ -5,4 +5,5 @@ use Rattle.words.proofs.parts.set_fence.Goals as goal
 pub returns : goal.returns
 unfolding view_of
 returns c =
-    stored_fence c.args.l.now c.put.new.l c.args.k c.requires (rw (c.upper-made.ensures, c.fence_word.ensures) at c.pack.ensures) c.put.ensures
+    let n = c.number-k.ensures in
+    stored_fence c.args.l.now c.put.new.l c.args.k (rw (← n.is) n.fits) (rw (c.upper-made.ensures, c.fence_word.ensures, n.is) at c.pack.ensures) (rw n.is at c.put.ensures)

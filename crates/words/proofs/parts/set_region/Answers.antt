@@ -8,4 +8,5 @@ use Rattle.words.proofs.parts.set_region.Goals as goal
 pub returns : goal.returns
 returns c =
     let x = c.args in
-    ap view_of (c.put-2.ensures ∙ ap (put (162 + (8 * x.k + x.i)) x.r.pages) c.put.ensures) ∙ view-region (read x.l.now) x.k x.r.first c.requires.0 x.i x.r.pages c.requires.1
+    let n = c.number.ensures in
+    ap view_of (rw n.is at c.put-2.ensures ∙ ap (put (162 + (8 * x.k + x.i)) x.r.pages) (rw n.is at c.put.ensures)) ∙ view-region (read x.l.now) x.k x.r.first (rw (← n.is) n.fits) x.i x.r.pages c.requires
