@@ -27,7 +27,12 @@ fn on_free(l: &Words, t: &mut [u8], r: &Request, pages: u64)
         pages::own(t, free, pages, Kind::Ordinary as u8, 0)
     } else if r.is(Operation::Create) {
         // 16 where no slot can be taken, as in the definition; refusal 9 keeps the call from coming here then.
-        pages::found(t, r.arg(Role::DirectoryBase), free, taken(l).unwrap_or(16) as u8)
+        pages::found(
+            t,
+            r.arg(Role::DirectoryBase),
+            free,
+            taken(l).unwrap_or(16) as u8,
+        )
     } else if r.is(Operation::PoolPages) {
         pages::own(t, free, pages, Kind::TablePool as u8, tvm as u8)
     } else if r.is(Operation::Vcpu) {
