@@ -2,18 +2,17 @@
 // call names, with 0 in it where an argument that is not named is not 0.
 ghost use Rattle.std.specs.Prelude.{◌≡◌, cond, ◌<◌};
 ghost use Rattle.sets.specs.Set.{with, without};
-ghost use Rattle.rules.specs.Tables.{role_at, row_of};
+ghost use Rattle.rules.specs.Tables.{role_at};
 ghost use Rattle.door.specs.Asked.{Asked, unnamed_by, roles_of};
 
 use rules::Call;
-use rules::tables::role_at;
+use rules::tables::Row;
 
 #[tactic(auto, using(crate::proofs::Named::role_at_lem))]
-fn role(call: u64, row: u64, i: u64) -> u64
-    requires { row ≡ row_of call }
-    ensures { (result ≡ role_at call i) × (result < 12) }
+fn role(row: Row, i: u64) -> u64
+    ensures { (result ≡ role_at row i) × (result < 12) }
 {
-    role_at(call, row, i)
+    row.role_at(i)
 }
 
 // Some argument whose role is 0 is not 0.
@@ -67,17 +66,16 @@ fn marked(s: u64, spare: bool) -> u64
 }
 
 // `row` is the call's row of the table of calls.
-pub fn asked(q: Call, row: u64) -> [u64; 12]
-    requires { row ≡ row_of q.number }
+pub fn asked(q: Call, row: Row) -> [u64; 12]
+    requires { row ≡ q.number }
     ensures { Asked q result }
 {
-    let n = q.number;
-    let r0 = role(n, row, 0);
-    let r1 = role(n, row, 1);
-    let r2 = role(n, row, 2);
-    let r3 = role(n, row, 3);
-    let r4 = role(n, row, 4);
-    let r5 = role(n, row, 5);
+    let r0 = role(row, 0);
+    let r1 = role(row, 1);
+    let r2 = role(row, 2);
+    let r3 = role(row, 3);
+    let r4 = role(row, 4);
+    let r5 = role(row, 5);
     let mut a = [0u64; 12];
     a[r5 as usize] = q.a5;
     a[r4 as usize] = q.a4;

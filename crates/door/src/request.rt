@@ -7,28 +7,27 @@ ghost use Rattle.door.specs.Operations.{number_of};
 
 use super::asked::asked;
 use rules::numbers::Operation;
-use rules::tables::{is_lawful, is_unknown, row};
+use rules::tables::Row;
 use rules::{Call, Role};
 use std::marker::Model;
 
 #[derive(Drop)]
 pub struct Request {
     call: Call,
-    row: u64,
+    row: Row,
     words: [u64; 12],
 }
 
 impl Model for Request {
     ghost use Rattle.std.specs.Prelude.{◌≡◌};
     ghost use Rattle.rules.specs.declared.Call.{Call};
-    ghost use Rattle.rules.specs.Tables.{row_of};
     ghost use Rattle.door.specs.Asked.{Asked};
 
     ghost Value = { Call };
 
     ghost view = { λ r. r.call };
 
-    ghost invariant = { λ r. Asked r.call r.words × (r.row ≡ row_of r.call.number) };
+    ghost invariant = { λ r. Asked r.call r.words × (r.row ≡ r.call.number) };
 }
 
 impl Request {
@@ -36,7 +35,7 @@ impl Request {
     pub fn new(call: Call) -> Request
         ensures { result ≡ call }
     {
-        let row = row(call.number);
+        let row = Row::of(call.number);
         let words = asked(call, row);
         Request { call, row, words }
     }
@@ -84,12 +83,12 @@ impl Request {
     pub fn is_unknown(&self) -> bool
         ensures { result ≡ eqb (entry_of self.now.number).number 0 }
     {
-        is_unknown(self.call.number, self.row)
+        self.row.is_unknown()
     }
 
     pub fn is_lawful(&self, phase: u64) -> bool
         ensures { result ≡ allows (entry_of self.now.number).phases phase }
     {
-        is_lawful(self.call.number, self.row, phase)
+        self.row.is_lawful(phase)
     }
 }

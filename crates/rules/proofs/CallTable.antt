@@ -118,8 +118,8 @@ phase_digit n p l = same_true _ _ (all_at (agrees (entry_of n).phases) 4 p (go (
     go R = refl
     go IR = refl
 
-pub no-phase : (n p : ℕ) → 4 ≤ p → allows (entry_of n).phases p ≡ false
-no-phase n p h = go (entry_of n).phases
+pub unlawful_past : (n p : ℕ) → 4 ≤ p → allows (entry_of n).phases p ≡ false
+unlawful_past n p h = go (entry_of n).phases
   where
     go : (x : Phases) → allows x p ≡ false
     go no_phase = refl

@@ -6,6 +6,7 @@ ghost use Rattle.rules.specs.Answers.{answer_of};
 ghost use Rattle.rules.specs.Tables.{role_at, call_digit, row_of};
 
 use super::Answer;
+use std::marker::Model;
 
 const ERRORS: [i64; 16] = [
     0, // accepted
@@ -94,8 +95,30 @@ pub fn value_of(answer: Answer) -> u64
     }
 }
 
-// A call's row. It is looked up once for a call and handed on: a look puts the whole table on the stack.
-pub fn row(call: u64) -> u64
+// A call's row of the table of calls, and the call that it is of, which is the row's value in a contract.
+#[derive(Clone, Copy)]
+pub struct Row {
+    call: u64,
+    digits: u64,
+}
+
+impl Model for Row {
+    ghost use Rattle.std.specs.Prelude.{◌≡◌, ℕ, refl};
+    ghost use Rattle.rules.specs.Tables.{row_of};
+
+    ghost Value = { ℕ };
+
+    ghost view = { λ r. r.call };
+
+    ghost invariant = { λ r. r.digits ≡ row_of r.call };
+
+    ghost inverse = { λ n. record { call = n; digits = row_of n } };
+
+    ghost inverse_ok = { λ r is. rw is refl };
+}
+
+#[tactic(auto, using(crate::proofs::CallTable::row_is, crate::proofs::CallTable::row_small, crate::proofs::CallTable::past_row), unfolding(crate::proofs::CallTable::rows))]
+fn digits_of(call: u64) -> u64
     ensures { result ≡ row_of call }
 {
     if call < 34 {
@@ -106,36 +129,49 @@ pub fn row(call: u64) -> u64
     }
 }
 
-// Hex digit i of a call's row, from 0 on the left. Here and below `call` is there for the contract, which says whose row it is.
-fn digit(call: u64, row: u64, i: u64) -> u64
-    requires { (row ≡ row_of call) × (i < 8) }
-    ensures { result ≡ call_digit call i }
-{
-    (row >> (4 * (7 - i))) % 16
-}
-
-pub fn is_unknown(call: u64, row: u64) -> bool
-    requires { row ≡ row_of call }
-    ensures { result ≡ eqb (entry_of call).number 0 }
-{
-    digit(call, row, 0) == 0
-}
-
-pub fn is_lawful(call: u64, row: u64, phase: u64) -> bool
-    requires { row ≡ row_of call }
-    ensures { result ≡ allows (entry_of call).phases phase }
-{
-    if phase < 4 {
-        (digit(call, row, 1) >> phase) % 2 == 1
-    } else {
-        false
+impl Row {
+    // The row is looked up once for a call and handed on: a look puts the whole table on the stack.
+    pub fn of(call: u64) -> Row
+        ensures { result ≡ call }
+    {
+        Row {
+            call,
+            digits: digits_of(call),
+        }
     }
-}
 
-// What argument i of a call is: the number of its role.
-pub fn role_at(call: u64, row: u64, i: u64) -> u64
-    requires { row ≡ row_of call }
-    ensures { result ≡ role_at call i }
-{
-    if i < 6 { digit(call, row, i + 2) } else { 0 }
+    // Hex digit i of the row, from 0 on the left.
+    #[tactic(auto, using(crate::proofs::CallTable::row_digit))]
+    fn digit(self, i: u64) -> u64
+        requires { i < 8 }
+        ensures { result ≡ call_digit self i }
+    {
+        (self.digits >> (4 * (7 - i))) % 16
+    }
+
+    #[tactic(auto, using(crate::proofs::CallTable::known_digit))]
+    pub fn is_unknown(self) -> bool
+        ensures { result ≡ eqb (entry_of self).number 0 }
+    {
+        self.digit(0) == 0
+    }
+
+    #[tactic(auto, using(crate::proofs::CallTable::phase_digit, crate::proofs::CallTable::unlawful_past))]
+    pub fn is_lawful(self, phase: u64) -> bool
+        ensures { result ≡ allows (entry_of self).phases phase }
+    {
+        if phase < 4 {
+            (self.digit(1) >> phase) % 2 == 1
+        } else {
+            false
+        }
+    }
+
+    // What argument i of the call is: the number of its role, and no Option<Role>, since the words of a call's arguments are indexed by it.
+    #[tactic(auto, using(crate::proofs::CallTable::role_digit, crate::proofs::CallTable::no_role))]
+    pub fn role_at(self, i: u64) -> u64
+        ensures { result ≡ role_at self i }
+    {
+        if i < 6 { self.digit(i + 2) } else { 0 }
+    }
 }
