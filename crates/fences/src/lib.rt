@@ -9,7 +9,7 @@ ghost use Rattle.rules.specs.Ledger.{flushes as flushes_at};
 ghost use Rattle.rules.specs.Encoding.{bits};
 ghost use Rattle.fences.specs.Trackers.{tracked, begun, struck, mark_of, tvm_ended};
 
-pub mod lent;
+mod lent;
 
 // A version of one sort of fence: a number in a type of its own.
 pub trait Version: Copy {
