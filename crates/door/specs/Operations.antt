@@ -3,23 +3,23 @@ use Rattle.std.specs.Prelude.{ℕ}
 use Rattle.rules.specs.declared.numbers.Operation.{Operation}
 use Rattle.rules.specs.declared.numbers.Operation.TheVariants as Op
 
-abbrev pub number_of : Operation → ℕ
-number_of Op.Convert = 1
-number_of Op.Reclaim = 2
-number_of Op.GlobalFence = 3
-number_of Op.LocalFence = 4
-number_of Op.Create = 5
-number_of Op.Finalize = 6
-number_of Op.Destroy = 8
-number_of Op.Region = 9
-number_of Op.PoolPages = 10
-number_of Op.Measured = 11
-number_of Op.Zero = 12
-number_of Op.Vcpu = 14
-number_of Op.Enter = 15
-number_of Op.TvmFence = 16
-number_of Op.Invalidate = 17
-number_of Op.Validate = 18
-number_of Op.Remove = 19
-number_of Op.Leave = 32
-number_of Op.Open = 33
+abbrev pub call_number : Operation → ℕ
+call_number Op.Convert = 1
+call_number Op.Reclaim = 2
+call_number Op.GlobalFence = 3
+call_number Op.LocalFence = 4
+call_number Op.Create = 5
+call_number Op.Finalize = 6
+call_number Op.Destroy = 8
+call_number Op.Region = 9
+call_number Op.PoolPages = 10
+call_number Op.Measured = 11
+call_number Op.Zero = 12
+call_number Op.Vcpu = 14
+call_number Op.Enter = 15
+call_number Op.TvmFence = 16
+call_number Op.Invalidate = 17
+call_number Op.Validate = 18
+call_number Op.Remove = 19
+call_number Op.Leave = 32
+call_number Op.Open = 33

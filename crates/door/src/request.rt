@@ -3,7 +3,7 @@
 ghost use Rattle.std.specs.Prelude.{◌≡◌, eqb};
 ghost use Rattle.rules.specs.Calls.{allows, arg, entry_of, names, unnamed};
 ghost use Rattle.door.specs.Asked.{named};
-ghost use Rattle.door.specs.Operations.{number_of};
+ghost use Rattle.door.specs.Operations.{call_number};
 
 use super::asked::asked;
 use rules::numbers::Operation;
@@ -47,7 +47,7 @@ impl Request {
     }
 
     pub fn is(&self, operation: Operation) -> bool
-        ensures { result ≡ eqb self.now.number (number_of operation) }
+        ensures { result ≡ eqb self.now.number (call_number operation) }
     {
         self.call.number == operation as u64
     }

@@ -24,6 +24,7 @@ fn bare_page(kind: u8, slot: u8) -> Page
     }
 }
 
+// `base` and `pages` stay two numbers: that they are in the table speaks of the table's length, which a type of the two could not.
 // The pages from an address on become p, its guest word `step` more from each to the next.
 fn give(t: &mut [u8], base: u64, pages: u64, p: Page, step: u32)
     requires { (InTable base pages t.old) × (p.guest + step * pages < 2 ^ 32) }
@@ -60,7 +61,7 @@ fn guest_word(first: u32, large: bool) -> u32
     if large { first + 2147483648 } else { first }
 }
 
-// "Page i of a range goes to guest page i".
+// "Page i of a range goes to guest page i". (`large` is bit 31, as the definition `guest_word` takes it, and picks no step.)
 pub fn map(t: &mut [u8], base: u64, pages: u64, slot: u8, first: u32, large: bool)
     requires { (InTable base pages t.old) × (first + pages ≤ 1048576) }
     ensures { pages_of t.new ≡ given (pages_of t.old) base pages (mapping base slot first large) }

@@ -27,6 +27,7 @@ pub trait Version: Copy {
     ghost keeps: { (n : ℕ) → number (numbered n) ≡ n };
 }
 
+// Two tuple structs, as the paper's two sorts of fence want it, so the trait has two impls alike.
 #[derive(Clone, Copy, PartialEq, Eq, PartialOrd, Ord)]
 pub struct GlobalVersion(pub u16);
 

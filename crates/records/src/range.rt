@@ -17,7 +17,7 @@ pub struct AllWanted {
     pub unfinished: bool,
 }
 
-// An ordinary page where the host's are wanted, else a free one.
+// An ordinary page where the host's are wanted, else a free one. (`host` is the definition's own: an enum of two cases would say the same.)
 fn is_wanted(host: bool, kind: u8) -> bool
     ensures { result ≡ wanted host kind }
 {

@@ -39,6 +39,7 @@ pub enum Role {
 // An accepted call's value, or why it is refused.
 pub type Answer = Result<u64, Refusal>;
 
+// A record as the lent table has it, which may hold any byte: so kind and slot are numbers (`numbers::Kind` names the paper's).
 #[derive(Clone, Copy)]
 pub struct Page {
     pub kind: u8,

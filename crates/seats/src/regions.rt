@@ -13,7 +13,8 @@ use rules::numbers::Operation;
 use words::parts::Region;
 use words::{Words, parts};
 
-// They have a page in common, and so neither is without pages.
+// They have a page in common, and so neither is without pages. (`first` and `pages` stay two numbers, as the paper's conditions take them: a type
+// with their bound would name its two fields in their place in each clause.)
 fn overlaps(r: Region, first: u64, pages: u64) -> bool
     requires { first + pages ≤ 1048576 }
     ensures { result ≡ n.overlaps first pages (region_of r) }

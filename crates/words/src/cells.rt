@@ -26,7 +26,7 @@ pub fn put(l: &mut Words, i: usize, v: u32)
     l[i] = v;
 }
 
-// Word i of the run of n from `base` on, and 0 past its end.
+// Word i of the run of n from `base` on, and 0 past its end. (The words are one lent array, as C has them, so a run in it is a place and a length.)
 pub fn in_part(l: &Words, base: usize, n: u64, i: u64) -> u32
     requires { (base < 426) × (base + n < 427) }
     ensures { result ≡ part (read l.now) base n i }

@@ -59,6 +59,7 @@ pub fn set_global(l: &mut Words, g: GlobalTracker)
     put(l, 0, pack(g, harts));
 }
 
+// (This and `phase` are one call of `in_part` each: a const parameter for the run would be no shorter.)
 fn fence_word(l: &Words, k: u64) -> u32
     ensures { result ≡ part (read l.now) 2 16 k }
 {
