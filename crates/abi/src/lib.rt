@@ -5,7 +5,7 @@
 ghost use Rattle.ledger.specs.Settled.{call_with};
 ghost use Rattle.abi.specs.Replied.{Replied};
 
-use rules::tables::{error_of, value_of};
+use rules::tables::{error_of, numbered, value_of};
 use words::Words;
 
 // An answer in document 01's numbers.
@@ -31,6 +31,7 @@ pub fn roadbellow_call(
     ensures { Replied ledger.old table.old (call_with number hart a0 a1 a2 a3 a4 a5) result ledger.new table.new }
 {
     let answer = ledger::call(ledger, table, number, hart, a0, a1, a2, a3, a4, a5);
+    let answer = numbered(answer);
     let error = error_of(answer);
     let value = value_of(answer);
     Reply { error, value }

@@ -7,7 +7,7 @@ ghost use Rattle.lines.specs.Lines.{told as lines_told, line as lines_line, note
 
 use super::text::Text;
 use rules::Answer;
-use rules::tables::{error_of, value_of};
+use rules::tables::{error_of, numbered, value_of};
 use tape::record::Step;
 
 impl Text {
@@ -36,6 +36,7 @@ impl Text {
         requires { (length self.old + 33 ≤ ROOM) × (number < 10 ^ 4) × (call < 10 ^ 3) }
         ensures { (self.new ≡ self.old ++ lines_line number call (answer_of answer)) × (length self.new ≤ length self.old + 33) }
     {
+        let answer = numbered(answer);
         let error = error_of(answer);
         let value = value_of(answer);
         self.field(number);

@@ -30,3 +30,8 @@ answer_of (Err why) = Refused (number_of why)
 abbrev pub given : {A : Type 0} → Result A Refusal → ℕ
 given (Ok x) = 0
 given (Err why) = number_of why
+
+-- and what one stands for that has the number itself, whatever it is
+abbrev pub answer_by : Result ℕ ℕ → Answer
+answer_by (Ok value) = Accepted value
+answer_by (Err number) = Refused number

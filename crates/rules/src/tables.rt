@@ -2,10 +2,11 @@
 ghost use Rattle.std.specs.Prelude.{◌≡◌, ◌<◌, eqb};
 ghost use Rattle.rules.specs.Calls.{allows, entry_of};
 ghost use Rattle.rules.specs.Step.{Refused, error_of, value_of};
-ghost use Rattle.rules.specs.Answers.{answer_of};
+ghost use Rattle.rules.specs.Answers.{answer_by, answer_of};
 ghost use Rattle.rules.specs.Tables.{role_at, call_digit, row_of};
 
 use super::Answer;
+use super::numbers::Refusal;
 use std::marker::Model;
 
 const ERRORS: [i64; 16] = [
@@ -77,22 +78,29 @@ pub fn error_at(number: u64) -> i64
     }
 }
 
-pub fn error_of(answer: Answer) -> i64
-    ensures { result ≡ error_of (answer_of answer) }
+pub fn error_of(answer: Result<u64, u64>) -> i64
+    ensures { result ≡ error_of (answer_by answer) }
 {
     match answer {
         Ok(_) => 0,
-        Err(why) => error_at(why.number()),
+        Err(number) => error_at(number),
     }
 }
 
-pub fn value_of(answer: Answer) -> u64
-    ensures { result ≡ value_of (answer_of answer) }
+pub fn value_of(answer: Result<u64, u64>) -> u64
+    ensures { result ≡ value_of (answer_by answer) }
 {
     match answer {
         Ok(value) => value,
-        Err(why) => why.number(),
+        Err(number) => number,
     }
+}
+
+// The answer with its refusal's number, of which error and value are asked.
+pub fn numbered(answer: Answer) -> Result<u64, u64>
+    ensures { answer_by result ≡ answer_of answer }
+{
+    answer.map_err(Refusal::number)
 }
 
 // A call's row of the table of calls, and the call that it is of, which is the row's value in a contract.
