@@ -15,7 +15,7 @@ fn role(row: Row, i: u64) -> u64
     row.role_at(i)
 }
 
-// Some argument whose role is 0 is not 0.
+// Some argument whose role is 0 is not 0. (Six arguments in six registers and words, as C hands them in: so the six roles stand beside them one by one.)
 #[tactic(auto, unfolding(sets::specs::Terms::one_of, sets::specs::Terms::one_from))]
 fn spare(q: Call, r0: u64, r1: u64, r2: u64, r3: u64, r4: u64, r5: u64) -> bool
     ensures { result ≡ unnamed_by q r0 r1 r2 r3 r4 r5 }

@@ -78,6 +78,7 @@ fn is_long(extent: Extent) -> bool
     }
 }
 
+// (Conditions ask a name and its value apart, here and in `places`, as the definitions do.)
 // The vCPU of the slot is made.
 #[tactic(auto, using(crate::proofs::Named::made_past))]
 pub fn is_made(l: &Words, k: u64, v: u64) -> bool

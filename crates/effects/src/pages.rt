@@ -33,7 +33,7 @@ fn give(t: &mut [u8], base: u64, pages: u64, p: Page, step: u32)
     range::fill_range(t, index_of(base), pages as u32, p, step);
 }
 
-// Every page becomes one of the kind with the slot.
+// Every page becomes one of the kind with the slot. (A record may be of any kind, and this writes any.)
 pub fn own(t: &mut [u8], base: u64, pages: u64, kind: u8, slot: u8)
     requires { InTable base pages t.old }
     ensures { pages_of t.new ≡ given (pages_of t.old) base pages (λ i. page kind slot 0 0) }

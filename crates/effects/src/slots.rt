@@ -47,7 +47,7 @@ pub fn destroy(l: &mut Words, k: Slot)
     bare(l, k, Phase::Empty as u32, t.ended());
 }
 
-// The region takes the lowest place that has none.
+// The region takes the lowest place that has none. (`first` and `pages` are two of the call's arguments, as refusal 10 takes them.)
 pub fn add_region(l: &mut Words, k: Slot, first: u64, pages: u64)
     requires { (first + pages ≤ 1048576) × (lowest (n.unused ((view l.old).slot k)) 8 < 8) }
     ensures { view l.new ≡ with_slot k (added first pages ((view l.old).slot k)) (view l.old) }

@@ -28,10 +28,10 @@ pub trait Version: Copy {
 }
 
 // Two tuple structs, as the paper's two sorts of fence want it, so the trait has two impls alike.
-#[derive(Clone, Copy, PartialEq, Eq, PartialOrd, Ord)]
+#[derive(Clone, Copy, PartialEq, Eq)]
 pub struct GlobalVersion(pub u16);
 
-#[derive(Clone, Copy, PartialEq, Eq, PartialOrd, Ord)]
+#[derive(Clone, Copy, PartialEq, Eq)]
 pub struct TvmVersion(pub u16);
 
 impl Version for GlobalVersion {

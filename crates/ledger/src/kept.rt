@@ -27,6 +27,7 @@ fn create(l: &mut Words) -> u64
     k
 }
 
+// One test after another, here and in `table`: a `match` would first want an Operation of every number, and its last arm the calls that there are not.
 // 6, 8, 9, 14 and 33, whose value is 0 as where none is named; the other calls leave the ledger as it is.
 fn on_slots(l: &mut Words, r: &Request, pages: u64) -> u64
     requires { Lawful (view l.old) r.now × (pages ≡ size r.now) × InSlots r.now }

@@ -17,7 +17,8 @@ use rules::Role;
 use rules::numbers::{Kind, Operation};
 use words::{Words, parts, sizes};
 
-// Whether each of the three holds; of 7 and 14 only where 6 does not.
+// Whether each of the three holds; of 7 and 14 only where 6 does not. (Three truth values, since 14 is asked only after 8 to 13: an Option would be
+// taken apart for each of them.)
 #[derive(Clone, Copy)]
 pub struct Sight {
     pub refuses6: bool,
@@ -33,7 +34,7 @@ pub fn index_of(base: u64) -> usize
     ((base - MEMORY) / 4096) as usize
 }
 
-// At pages from an address on; nothing is amiss where the call names none.
+// At pages from an address on; nothing is amiss where the call names none. (`host` as in `range::look`.)
 fn look_at(
     t: &[u8],
     base: Option<u64>,
@@ -57,7 +58,7 @@ pub fn is_move(r: &Request) -> bool
     r.is(Operation::Invalidate) | r.is(Operation::Validate) | r.is(Operation::Remove)
 }
 
-// The kind that the guest pages of 17 to 19 must have.
+// The kind that the guest pages of 17 to 19 must have, as the number that a record has.
 fn kind_for(r: &Request) -> u8
     ensures { result ≡ row r.now.number 17 7 8 }
 {

@@ -64,7 +64,7 @@ fn with_cut(cut: bool, p: Page, first: u32, count: u32) -> bool
 }
 
 // None where a guest page is not mapped or of another kind.
-// `n` is the ledger's number of pages, over which the definitions look, and not the table's length: here, and wherever `t` has it beside.
+// `n` is the ledger's number of pages, over which the definitions look; the table may be longer. A record may be of any kind, so `kind` is a number.
 pub fn look(
     t: &[u8],
     n: usize,

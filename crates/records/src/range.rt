@@ -17,7 +17,7 @@ pub struct AllWanted {
     pub unfinished: bool,
 }
 
-// An ordinary page where the host's are wanted, else a free one. (`host` is the definition's own: an enum of two cases would say the same.)
+// An ordinary page where the host's are wanted, else a free one. (`host` is the definition's own: a closure in its place would have to say in each contract what it asks.)
 fn is_wanted(host: bool, kind: u8) -> bool
     ensures { result ≡ wanted host kind }
 {
@@ -73,7 +73,8 @@ fn page_of(p: Page, step: u32, i: u32) -> Page
     }
 }
 
-// The first `count` records of the part that is lent become p, its guest word `step` more from each to the next.
+// The first `count` records of the part that is lent become p, its guest word `step` more from each to the next. (So the record that comes next is no
+// value of its own: `p` and `step` stay two, and that no word runs over is said where they are used.)
 pub fn fill(part: &mut [u8], count: u32, p: Page, step: u32)
     requires { (8 * count ≤ length part.old) × (p.guest + step * count < 2 ^ 32) }
     ensures { pages_of part.new ≡ over (pages_of part.old) (λ i. ltb i count) (stepped p step) }

@@ -8,7 +8,7 @@ ghost use Rattle.sets.specs.Set.{member, with, without, full};
 
 pub use digits::Digits;
 
-// The number k is in the set.
+// The number k is in the set. (That k is a digit's is each function's own bound of its one argument; a type for it would only be unwrapped here.)
 #[tactic(auto, unfolding(crate::specs::Set::member))]
 pub fn has<S: Digits>(set: S, k: usize) -> bool
     requires { k < S.width }

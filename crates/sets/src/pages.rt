@@ -15,6 +15,7 @@ impl Model for PageSet {
     ghost view = { λ set. set.words };
 }
 
+// (`d` is each method's one argument, so its bound stands at each.)
 impl PageSet {
     pub fn new() -> PageSet
         ensures { result ≡ replicate 64 0 }

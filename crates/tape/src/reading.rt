@@ -17,7 +17,7 @@ pub fn run_of(tape: &[u8]) -> Run
 {
     let mut reader = Reader { tape, at: 0 };
     let mut records = 0;
-    // A `for` over `&mut reader` would leave it unknown where the reader stands after it.
+    // A `for` over `&mut reader`, or `by_ref` and `count`, would leave it unknown where the reader stands after it.
     while let Some(_) = reader.next() {
         records += 1;
     }

@@ -12,6 +12,7 @@ use super::below::{Hart, Slot, Vcpu};
 use super::cells::{cell, in_part, put, upper, word};
 use fences::{GlobalTracker, Tracker, TvmTracker, TvmVersion, Version};
 
+// Where each run begins in the one lent array, which is C's: so runs that belong together, as firsts and lengths of regions, stand apart in it.
 const FENCES: usize = 2;
 
 const PHASES: usize = 18;
@@ -100,6 +101,7 @@ pub fn phase(l: &Words, k: u64) -> u32
     in_part(l, PHASES, 16, k)
 }
 
+// (A word may hold any phase, and this writes any.)
 pub fn set_phase(l: &mut Words, k: Slot, phase: u32)
     ensures { view l.new ≡ with_slot k (slot_with phase ((view l.old).slot k).fence ((view l.old).slot k).made ((view l.old).slot k).region) (view l.old) }
 {
