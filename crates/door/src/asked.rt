@@ -6,10 +6,10 @@ ghost use Rattle.rules.specs.Tables.{role_at};
 ghost use Rattle.door.specs.Asked.{Asked, unnamed_by, roles_of};
 
 use rules::Call;
-use rules::tables::Row;
+use rules::tables::TableRow;
 
 #[tactic(auto, using(crate::proofs::Named::role_at_lem))]
-fn role(row: Row, i: u64) -> u64
+fn role(row: TableRow, i: u64) -> u64
     ensures { (result ≡ role_at row i) × (result < 12) }
 {
     row.role_at(i)
@@ -66,7 +66,7 @@ fn marked(s: u64, spare: bool) -> u64
 }
 
 // `row` is the call's row of the table of calls.
-pub fn asked(q: Call, row: Row) -> [u64; 12]
+pub fn asked(q: Call, row: TableRow) -> [u64; 12]
     requires { row ≡ q.number }
     ensures { Asked q result }
 {

@@ -7,14 +7,14 @@ ghost use Rattle.door.specs.Operations.{call_number};
 
 use super::asked::asked;
 use rules::numbers::Operation;
-use rules::tables::Row;
+use rules::tables::TableRow;
 use rules::{Call, Role};
 use std::marker::Model;
 
 #[derive(Drop)]
 pub struct Request {
     call: Call,
-    row: Row,
+    row: TableRow,
     words: [u64; 12],
 }
 
@@ -35,7 +35,7 @@ impl Request {
     pub fn new(call: Call) -> Request
         ensures { result ≡ call }
     {
-        let row = Row::of(call.number);
+        let row = TableRow::of(call.number);
         let words = asked(call, row);
         Request { call, row, words }
     }

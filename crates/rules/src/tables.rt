@@ -105,12 +105,12 @@ pub fn numbered(answer: Answer) -> Result<u64, u64>
 
 // A call's row of the table of calls, and the call that it is of, which is the row's value in a contract.
 #[derive(Clone, Copy)]
-pub struct Row {
+pub struct TableRow {
     call: u64,
     digits: u64,
 }
 
-impl Model for Row {
+impl Model for TableRow {
     ghost use Rattle.std.specs.Prelude.{◌≡◌, ℕ, refl};
     ghost use Rattle.rules.specs.Tables.{row_of};
 
@@ -126,7 +126,7 @@ impl Model for Row {
 }
 
 #[tactic(auto, using(crate::proofs::CallTable::row_is, crate::proofs::CallTable::row_small, crate::proofs::CallTable::past_row), unfolding(crate::proofs::CallTable::rows))]
-fn digits_of(call: u64) -> u64
+pub fn row(call: u64) -> u64
     ensures { result ≡ row_of call }
 {
     if call < 34 {
@@ -137,14 +137,14 @@ fn digits_of(call: u64) -> u64
     }
 }
 
-impl Row {
+impl TableRow {
     // The row is looked up once for a call and handed on: a look puts the whole table on the stack.
-    pub fn of(call: u64) -> Row
+    pub fn of(call: u64) -> TableRow
         ensures { result ≡ call }
     {
-        Row {
+        TableRow {
             call,
-            digits: digits_of(call),
+            digits: row(call),
         }
     }
 

@@ -23,6 +23,13 @@ impl PageSet {
         PageSet { words: [0; 64] }
     }
 
+    // The set that any 64 words are.
+    pub fn of(words: [u64; 64]) -> PageSet
+        ensures { result ≡ words }
+    {
+        PageSet { words }
+    }
+
     #[tactic(auto, unfolding(crate::specs::Pages::member_in))]
     pub fn has(&self, d: usize) -> bool
         requires { d < 4096 }
