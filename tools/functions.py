@@ -6,30 +6,39 @@ import re
 HEAD = re.compile(r'^( *)(?:#\[.*\]\n *)*(pub )?(?:final )?(?:const )?(?:extern "C" )?fn (\w+)', re.M)
 OPENS = r'^{0}(?:|\).* |(?:pub |final |const |extern "C" )*fn .* )\{{$'
 OWNER = re.compile(r"^(?:impl(?:<.*?>)? (?:(\w+)(?:<.*?>)? for )?(\w+)|(?:pub )?trait (\w+)).*\{$", re.M)
+TYPE = re.compile(r"^(?:pub )?(?:struct|enum) (\w+)", re.M)
 ROOTS = ("lib", "main", "mod")
 
 # Its path in the crate, whether it is public, and where in the file it begins, its body begins and ends.
 Function = collections.namedtuple("Function", "path public file begins opens ends")
 
 
-def owners(text):
-    """Where each impl and trait begins and ends, and its part of a method's path: the type with the trait after it, or the trait."""
+def modules_of(crate, file):
+    return [part for part in file.relative_to(crate / "src").with_suffix("").parts if part not in ROOTS]
+
+
+def owners(text, modules, declared):
+    """Where each impl and trait begins and ends, and what a method's path has before its name: the type with the trait after it, or the trait. Methods
+    of the type alone go by the module that declares it, wherever they stand."""
     for owner in OWNER.finditer(text):
         trait, of, own = owner.groups()
-        yield owner.end(), text.index("\n}", owner.end()), own or of + (trait or "")
+        at = modules if own or trait else declared.get(of, modules)
+        yield owner.end(), text.index("\n}", owner.end()), (*at, own or of + (trait or ""))
 
 
 def functions(crate):
     """Those that have a body, in the order of the files' names."""
-    for file in sorted((crate / "src").rglob("*.rt")):
+    files = sorted((crate / "src").rglob("*.rt"))
+    declared = {name: modules_of(crate, file) for file in files for name in TYPE.findall(file.read_text())}
+    for file in files:
         text = file.read_text()
-        modules = [part for part in file.relative_to(crate / "src").with_suffix("").parts if part not in ROOTS]
-        owned = list(owners(text))
+        modules = modules_of(crate, file)
+        owned = list(owners(text, modules, declared))
         heads = list(HEAD.finditer(text))
         for head, limit in zip(heads, [*(after.start() for after in heads[1:]), len(text)]):
             inside, public, name = head.groups()
             opens = re.compile(OPENS.format(inside), re.M).search(text, head.start(), limit)
             if opens:
-                of = [part for begins, ends, part in owned if begins < head.start() < ends]
+                of = next((path for begins, ends, path in owned if begins < head.start() < ends), modules)
                 ends = text.index(f"\n{inside}}}", opens.end())
-                yield Function((*modules, *of, name), bool(public), file, head.start(), opens.end(), ends)
+                yield Function((*of, name), bool(public), file, head.start(), opens.end(), ends)
