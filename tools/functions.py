@@ -5,7 +5,7 @@ import re
 # A head with its attributes, the line that opens the body, which ends at a brace as far in as the head, and what has methods: an impl and a trait.
 HEAD = re.compile(r'^( *)(?:#\[.*\]\n *)*(pub )?(?:final )?(?:const )?(?:extern "C" )?fn (\w+)', re.M)
 OPENS = r'^{0}(?:|\).* |(?:pub |final |const |extern "C" )*fn .* )\{{$'
-OWNER = re.compile(r"^(?:impl(?:<.*?>)? (?:(\w+)(?:<.*?>)? for )?(\w+)|(?:pub )?trait (\w+)).*\{$", re.M)
+OWNER = re.compile(r"^(?:impl(<.*?>)? (?:(\w+)(?:<.*?>)? for )?(\w+)(?:<(\w+)>)?|(?:pub )?trait (\w+)).*\{$", re.M)
 TYPE = re.compile(r"^(?:pub )?(?:struct|enum) (\w+)", re.M)
 ROOTS = ("lib", "main", "mod")
 
@@ -19,11 +19,12 @@ def modules_of(crate, file):
 
 def owners(text, modules, declared):
     """Where each impl and trait begins and ends, and what a method's path has before its name: the type with the trait after it, or the trait. Methods
-    of the type alone go by the module that declares it, wherever they stand."""
+    of the type alone go by the module that declares it, wherever they stand, and those of one instance of a type by that too; `u8` is `U8`."""
     for owner in OWNER.finditer(text):
-        trait, of, own = owner.groups()
+        generic, trait, of, instance, own = owner.groups()
         at = modules if own or trait else declared.get(of, modules)
-        yield owner.end(), text.index("\n}", owner.end()), (*at, own or of + (trait or ""))
+        name = own or of[0].upper() + of[1:] + (trait or "") + (f"+{instance}" if instance and not generic else "")
+        yield owner.end(), text.index("\n}", owner.end()), (*at, name)
 
 
 def functions(crate):
