@@ -4,7 +4,7 @@ ghost use Rattle.sets.specs.Pages.{member_in, with_in, without_in};
 
 use std::marker::Model;
 
-#[derive(Drop)]
+#[derive(Clone, Copy)]
 pub struct PageSet {
     words: [u64; 64],
 }
@@ -13,6 +13,8 @@ impl Model for PageSet {
     ghost Value = { List ℕ };
 
     ghost view = { λ set. set.words };
+
+    ghost inverse = { λ words. record { words = words } };
 }
 
 // (`d` is each method's one argument, so its bound stands at each.)
@@ -28,6 +30,14 @@ impl PageSet {
         ensures { result ≡ words }
     {
         PageSet { words }
+    }
+
+    // Its 64 words.
+    pub fn words(&self) -> [u64; 64]
+        ensures { result ≡ self.now }
+    {
+        let PageSet { words } = *self;
+        words
     }
 
     #[tactic(auto, unfolding(crate::specs::Pages::member_in))]
