@@ -1,7 +1,7 @@
 -- The decimal digits of a number: enough of them are all, how many they are, and that they say the number. Assumes nothing.
 use Prim.Native.Nat.{ℕ, zero, suc, ◌+◌, ◌-◌, ◌*◌, ◌/◌, ◌%◌, ◌^◌, ◌<◌, ◌≤◌}
 use mathlib.Core.Path.{◌≡◌, refl}
-use mathlib.Core.List.{List, [], ◌∷◌, ◌++◌, append_assoc}
+use mathlib.Core.List.{List, [], ◌∷◌, ◌++◌}
 use native.Mathlib.Omega.{arith}
 use lib.Dec.{ltb}
 use lib.ListN.{length, length-append}
@@ -25,13 +25,6 @@ one_digit n h = let e : n % 10 ≡ n = omega arith in rw (lt-ltb n 10 h, e)
 pub more_digits : (n : ℕ) → 10 ≤ n → decimal n ≡ decimal (n / 10) ++ ((48 + n % 10) ∷ [])
 unfolding digits
 more_digits n h = rw (le-ltb n 10 h, enough n (suc (n / 10)) (n / 10) (omega arith) (omega arith))
-
--- the last digit after what stood before the number, and after all others
-pub lone_digit : (n : ℕ) (before so_far : List ℕ) → n < 10 → so_far ≡ before → so_far ++ ((48 + n % 10) ∷ []) ≡ before ++ decimal n
-lone_digit n before so_far h e = rw (e, one_digit n h)
-
-pub last_digit : (n : ℕ) (before so_far : List ℕ) → 10 ≤ n → so_far ≡ before ++ decimal (n / 10) → so_far ++ ((48 + n % 10) ∷ []) ≡ before ++ decimal n
-last_digit n before so_far h e = rw (e, more_digits n h, append_assoc)
 
 -- k digits are enough below 10 to the k
 few : (k n m : ℕ) → n < 10 ^ suc k → n < m → length (digits m n) ≤ suc k

@@ -1,5 +1,6 @@
 pub mod Decimals
 pub mod Sizes
+pub mod Writes
 pub mod Printing
 pub mod Starts
 pub mod Promised

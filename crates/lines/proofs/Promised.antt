@@ -1,10 +1,25 @@
--- What follows from the promise of `print`. Assumes nothing.
-use Prim.Native.Nat.{ℕ}
+-- The promise of `print`: from what was written, and what follows from it. Assumes nothing.
+use Prim.Native.Nat.{ℕ, ◌≤◌}
 use mathlib.Core.Path.{◌≡◌, sym, ap, ◌∙◌}
-use mathlib.Core.List.{◌++◌}
+use mathlib.Core.List.{List, ◌++◌}
 use native.Mathlib.Omega.{arith}
 use lib.ListN.{length, take, drop, length-take, take-append-drop}
+use lib.Seq.{sets-eq, take_at, drop_at}
+use Rattle.lines.specs.Text.{Written}
+use Rattle.lines.specs.Lines.{printed, Printed}
 use Rattle.lines.specs.Promises.{Within, OnePrinting}
+
+-- what was written from the first byte on is what stands there
+pub printed-is : {s text before after : List ℕ} {end : ℕ} → printed s ≡ text → Written text before 0 end after → end ≤ length before → Printed s before end after
+printed-is {s} {text} {before} {after} {end} p w h =
+    let size : end ≡ length text = omega (arith, w.place) in
+    let whole : after ≡ text ++ drop end before =
+    w.bytes ∙ sets-eq text before 0 (omega arith) ∙ ap (λ (k : ℕ). text ++ drop k before) (sym w.place) in
+    record {
+      size = size ∙ ap length (sym p);
+      first = ap (take end) whole ∙ take_at text (drop end before) end (sym size) ∙ sym p;
+      rest = ap (drop end) whole ∙ drop_at text (drop end before) end (sym size);
+    }
 
 pub within : Within
 within tape before end after p = omega (arith, p.size, ap length p.first, length-take end after)

@@ -5,7 +5,7 @@ use mathlib.Core.Bool.{cond}
 use mathlib.Core.List.{List, ◌∷◌, ◌++◌}
 use native.Mathlib.Omega.{arith}
 use lib.Dec.{leb}
-use lib.ListN.{length, take, replicate}
+use lib.ListN.{length, take, replicate, length-replicate}
 use borrow.Author.Tests.{lt-ltb, le-ltb}
 use Rattle.rules.specs.Encoding.{state_of, pages_of}
 use Rattle.rules.proofs.Unique.{zeros-unopened}
@@ -16,6 +16,10 @@ use Rattle.tape.specs.Promises.{Stops}
 use Rattle.tape.proofs.Steps.{none_left}
 use Rattle.lines.specs.Text.{newline}
 use Rattle.lines.specs.Lines.{handed, zeros, start, lines_from, long, printed}
+
+pub length-zeros : (n : ℕ) → length (zeros n) ≡ n
+unfolding zeros
+length-zeros n = length-replicate n 0
 
 -- the front of zero bytes
 take-replicate : (n m : ℕ) → n ≤ m → take {A = ℕ} n (replicate m 0) ≡ replicate n 0

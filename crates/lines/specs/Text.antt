@@ -1,5 +1,6 @@
--- Numbers as text, in ASCII. Assumes nothing.
-use Rattle.std.specs.Prelude.{ℤ, pos, negsuc, ℕ, zero, suc, ◌+◌, ◌/◌, ◌%◌, cond, List, [], ◌∷◌, ◌++◌, ltb}
+-- Numbers as text, in ASCII, and what it means that text was written into lent bytes. Assumes nothing.
+use Rattle.std.specs.Prelude.{ℤ, pos, negsuc, ℕ, zero, suc, ◌+◌, ◌/◌, ◌%◌, ◌≡◌, cond, List, [], ◌∷◌, ◌++◌, ltb, length}
+use Rattle.std.proofs.lemmas.List.Edits.{sets}
 
 -- the decimal digits of n, the highest first, `most` of them at most
 unfoldable pub digits : ℕ → ℕ → List ℕ
@@ -20,3 +21,8 @@ blank = 32 ∷ []
 
 abbrev pub newline : List ℕ
 newline = 10 ∷ []
+
+-- the bytes `before` became `after`: the text stands there from `at` up to `end`, and all else is as it was
+pub record Written (text before : List ℕ) (at end : ℕ) (after : List ℕ) : Type 0 where
+  pub place : end ≡ at + length text
+  pub bytes : after ≡ sets before at text

@@ -3,7 +3,8 @@ ghost use Rattle.std.specs.Prelude.{◌≡◌, ◌≤◌, length};
 ghost use Rattle.rules.specs.Answers.{answer_of};
 ghost use Rattle.rules.specs.Encoding.{Called, state_of};
 ghost use Rattle.tape.specs.Tape.{call_of, reading};
-ghost use Rattle.lines.specs.Lines.{zeros, lines_from, printed as lines_printed, Printed, handed as lines_handed};
+ghost use Rattle.lines.specs.Text.{Written};
+ghost use Rattle.lines.specs.Lines.{zeros, lines_from, Printed, handed as lines_handed};
 
 use super::text::Text;
 use rules::Answer;
@@ -21,22 +22,27 @@ fn answered(taken: Taken<'_>, ledger: &mut Words, table: &mut [u8]) -> Answer
     )
 }
 
-// The lines of all records, and of a bad one: each call on what the last left.
-fn lines(tape: &[u8], ledger: &mut Words, table: &mut [u8]) -> Text
-    requires { length tape.now ≤ 65536 }
-    ensures { result ≡ lines_from 1 (state_of ledger.old table.old) (reading tape.now) }
+// The lines of all records, and of a bad one: each call on what the last left. (A line is put together apart and then laid down, so that no more than
+// a line stands beside the lent buffer.)
+fn lines(tape: &[u8], ledger: &mut Words, table: &mut [u8], out: &mut [u8]) -> usize
+    requires { (length tape.now ≤ 65536) × (41613 ≤ length out.old) }
+    ensures { Written (lines_from 1 (state_of ledger.old table.old) (reading tape.now)) out.old 0 result out.new
+        × (result ≤ length out.old) }
 {
-    let mut text = Text::new();
     let mut reader = Reader { tape, at: 0 };
     let mut number = 1;
+    let mut end = 0;
     // Not a `for`, as in `tape::reading::run_of`: what ends the records is asked of the reader.
     while let Some(taken) = reader.next() {
         let answer = answered(taken, ledger, table);
+        let mut text = Text::new();
         text.line(number, u64::from(taken.call), answer);
+        end = text.lay(out, end);
         number += 1;
     }
-    text.bad(number, reader.step());
-    text
+    let mut last = Text::new();
+    last.bad(number, reader.step());
+    last.lay(out, end)
 }
 
 // "as many as the first record's a1 (0 if above 4,096)"
@@ -54,27 +60,17 @@ fn blank_table() -> [u8; 32768]
     [0; 32768]
 }
 
-// All that is printed of a tape.
-fn printed(tape: &[u8]) -> Text
-    ensures { result ≡ lines_printed tape.now }
+// 1,260 records fit a tape, and with a bad one there are 1,261 lines, each of 33 bytes at most.
+pub fn print(tape: &[u8], out: &mut [u8; 41613]) -> usize
+    ensures { Printed tape.now out.old result out.new }
 {
     if 65536 < tape.len() {
         let mut text = Text::new();
         text.word(b"long\n");
-        return text;
+        return text.lay(out, 0);
     }
     let mut ledger = [0u32; words::SIZE];
     let mut table = blank_table();
     let end = 8 * handed(tape);
-    lines(tape, &mut ledger, &mut table[..end])
-}
-
-// Copies the text into the lent buffer, and answers how long it is.
-pub fn print(tape: &[u8], out: &mut [u8; 41613]) -> usize
-    ensures { Printed tape.now out.old result out.new }
-{
-    let text = printed(tape);
-    let bytes = text.as_bytes();
-    out[..bytes.len()].copy_from_slice(bytes);
-    bytes.len()
+    lines(tape, &mut ledger, &mut table[..end], out)
 }

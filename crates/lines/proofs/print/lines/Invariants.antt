@@ -8,4 +8,4 @@ use Rattle.lines.proofs.print.lines.Given as goal
 abbrev pub invariant-loop-taken : goal.invariant-loop-taken
 invariant-loop-taken l =
     (l.reader.tape.now ≡ l.tape)
-    × Printing l.tape (lines_from 1 (state_of l.initial.ledger l.initial.table) (reading l.tape)) l.ledger l.table l.number l.reader.at l.text
+    × Printing l.tape (lines_from 1 (state_of l.initial.ledger l.initial.table) (reading l.tape)) l.initial.out l.ledger l.table l.number l.reader.at l.end l.out
